@@ -1,0 +1,5 @@
+mod Digits
+mod Counted
+mod Pieces
+mod Lines
+pub mod Shaped

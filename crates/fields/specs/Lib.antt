@@ -1,0 +1,3 @@
+pub mod Wanted
+pub mod Values
+pub mod Pieces

@@ -1,0 +1,6 @@
+pub mod Steps
+pub mod Runs
+pub mod Reach
+pub mod Stuck
+pub mod Same
+pub mod Exactly

@@ -1,0 +1,101 @@
+-- The kinds of bytes, and single steps. Assumes nothing.
+use mathlib.Core.Path.{_≡_, refl, sym, ap, subst, _∙_}
+use mathlib.Core.Bool.{Bool, true, false, cond}
+use mathlib.Core.Logic.{_⊎_, inl, inr}
+use Prim.Native.Nat.{ℕ, zero, suc, _+_, _-_, _<_, _≤_}
+use native.Mathlib.Omega.{arith}
+use lib.Dec.{eqb, ltb}
+use Rattle.std.proofs.shelf.Ways.{tells}
+use Rattle.std.specs.declared.option.Option.{Option}
+use Rattle.std.specs.declared.option.Option.the-variants.{Some, None}
+use Rattle.grammar.specs.Kinds.{kind}
+use Rattle.grammar.specs.Forms.{Letter, Figure}
+use Rattle.grammar.specs.States.{goes, after, from, run}
+use Rattle.grammar.specs.declared.kind.Kind.{Kind}
+use Rattle.grammar.specs.declared.kind.Kind.the-variants as kinds
+use Rattle.grammar.specs.States.{State, Start, Word, Item, Nought, Digits, Closed, Done}
+
+pub is-open : (c : ℕ) → kind c ≡ kinds.Open → c ≡ 40
+is-open c h = grind (arith, tells)
+
+pub is-close : (c : ℕ) → kind c ≡ kinds.Close → c ≡ 41
+is-close c h = grind (arith, tells)
+
+pub is-space : (c : ℕ) → kind c ≡ kinds.Space → c ≡ 32
+is-space c h = grind (arith, tells)
+
+pub is-feed : (c : ℕ) → kind c ≡ kinds.Feed → c ≡ 10
+is-feed c h = grind (arith, tells)
+
+pub is-letter : (c : ℕ) → kind c ≡ kinds.Letter → Letter c
+is-letter c h = (grind (arith, tells), grind (arith, tells))
+
+pub is-nought : (c : ℕ) → kind c ≡ kinds.Nought → c ≡ 48
+is-nought c h = grind (arith, tells)
+
+pub is-digit : (c : ℕ) → kind c ≡ kinds.Digit → (49 ≤ c) × (c ≤ 57)
+is-digit c h = (grind (arith, tells), grind (arith, tells))
+
+pub letter-kind : (c : ℕ) → Letter c → kind c ≡ kinds.Letter
+letter-kind c (a, b) = grind (arith, tells)
+
+pub digit-kind : (c : ℕ) → 49 ≤ c → c ≤ 57 → kind c ≡ kinds.Digit
+digit-kind c a b = grind (arith, tells)
+
+pub figure-kind : (c : ℕ) → Figure c → (kind c ≡ kinds.Nought) ⊎ (kind c ≡ kinds.Digit)
+figure-kind c (a, b) = cases (eqb c 48) refl
+  where
+    cases : (t : Bool) → eqb c 48 ≡ t → (kind c ≡ kinds.Nought) ⊎ (kind c ≡ kinds.Digit)
+    cases true e = inl (grind (arith, tells))
+    cases false e = inr (grind (arith, tells))
+
+-- one value of an option
+pub some-is : {X : Type 0} {x y : X} → Some x ≡ Some y → x ≡ y
+some-is e = cc
+
+pub none-some : {X : Type 0} {x : X} → None ≡ Some x → ⊥
+none-some e = let z : _≡_ {A = ℕ} 0 1 = cc in omega arith
+
+-- tests
+pub cond-yes : {X : Type 0} (t : Bool) (x y : X) → t ≡ true → cond t x y ≡ x
+cond-yes t x y e = ap (λ v. cond v x y) e
+
+pub cond-no : {X : Type 0} (t : Bool) (x y : X) → t ≡ false → cond t x y ≡ y
+cond-no t x y e = ap (λ v. cond v x y) e
+
+pub lt-yes : (m n : ℕ) → m < n → ltb m n ≡ true
+lt-yes m n h = grind (arith, tells)
+
+pub lt-no : (m n : ℕ) → n ≤ m → ltb m n ≡ false
+lt-no m n h = grind (arith, tells)
+
+pub zero-no : (n : ℕ) → 0 < n → eqb n 0 ≡ false
+zero-no n h = grind (arith, tells)
+
+pub taken : {X : Type 0} (m n : ℕ) {x y : X} → cond (ltb m n) (Some x) None ≡ Some y → (m < n) × (x ≡ y)
+taken m n {x} {y} e = cases (ltb m n) refl e
+  where
+    cases : (t : Bool) → ltb m n ≡ t → cond t (Some x) None ≡ Some y → (m < n) × (x ≡ y)
+    cases true h e = (grind (arith, tells), some-is e)
+    cases false h e = absurd (none-some e)
+
+pub left-out : {X : Type 0} (m n : ℕ) (x : X) → cond (ltb m n) (Some x) None ≡ None → n ≤ m
+left-out m n x e = cases (ltb m n) refl e
+  where
+    cases : (t : Bool) → ltb m n ≡ t → cond t (Some x) None ≡ None → n ≤ m
+    cases true h e = absurd (none-some (sym e))
+    cases false h e = grind (arith, tells)
+
+pub not-zero : {X : Type 0} (n : ℕ) (o : Option X) {y : X} → cond (eqb n 0) None o ≡ Some y → (0 < n) × (o ≡ Some y)
+not-zero n o {y} e = cases (eqb n 0) refl e
+  where
+    cases : (t : Bool) → eqb n 0 ≡ t → cond t None o ≡ Some y → (0 < n) × (o ≡ Some y)
+    cases true h e = absurd (none-some e)
+    cases false h e = (grind (arith, tells), e)
+
+pub only-zero : {X : Type 0} (n : ℕ) {x y : X} → cond (eqb n 0) (Some x) None ≡ Some y → (n ≡ 0) × (x ≡ y)
+only-zero n {x} {y} e = cases (eqb n 0) refl e
+  where
+    cases : (t : Bool) → eqb n 0 ≡ t → cond t (Some x) None ≡ Some y → (n ≡ 0) × (x ≡ y)
+    cases true h e = (grind (arith, tells), some-is e)
+    cases false h e = absurd (none-some e)

@@ -1,0 +1,4 @@
+pub mod Passed
+pub mod Stalled
+pub mod Settling
+pub mod Ended

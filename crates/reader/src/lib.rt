@@ -1,0 +1,7 @@
+// Reads the lines of a sheet: tokens that borrow it, and lawful lines.
+pub mod reader;
+
+pub use reader::Line;
+pub use reader::Reader;
+pub use reader::Spotted;
+pub use reader::Token;

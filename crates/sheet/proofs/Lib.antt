@@ -1,0 +1,3 @@
+mod Shortened
+mod Stepping
+mod Granting

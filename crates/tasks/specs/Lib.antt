@@ -1,0 +1,5 @@
+pub mod Refusals
+pub mod Tasks
+pub mod Cuts
+pub mod Stored
+pub mod Tables

@@ -1,0 +1,11 @@
+// Tasks, tables of tasks, and every refusal of the product.
+pub mod proposal;
+pub mod refusal;
+pub mod table;
+pub mod task;
+
+pub use proposal::Proposal;
+pub use refusal::Refusal;
+pub use table::Draft;
+pub use table::Sealed;
+pub use task::Task;
