@@ -1,28 +1,26 @@
 -- Whole lines, and lines that are refused. Assumes nothing.
 use mathlib.Core.Path.{_≡_, refl, sym, ap, subst, _∙_}
 use mathlib.Core.List.{List, [], _∷_, _++_, append-nil}
-use Prim.Native.Nat.{ℕ, _+_, _-_, _≤_}
+use Prim.Native.Nat.{ℕ, _+_, _-_}
 use native.Mathlib.Omega.{arith}
-use lib.ListN.{length, take, drop}
+use lib.ListN.{length, take}
 use Rattle.std.proofs.shelf.Lists.{take-at}
-use Rattle.std.specs.declared.option.Option.the-variants.{Some, None}
+use Rattle.std.specs.declared.option.Option.the-variants.{Some}
 use Rattle.std.specs.declared.result.Result.{Result}
-use Rattle.std.specs.declared.result.Result.the-variants.{Ok, Err}
+use Rattle.std.specs.declared.result.Result.the-variants.{Err}
 use Rattle.grammar.specs.Kinds.{kind}
-use Rattle.grammar.specs.Forms.{line}
-use Rattle.grammar.specs.Faults.{Fault, forbidden, Faulty, Whole}
-use Rattle.grammar.specs.States.{State, Start, Word, Closed, Done, run, faultOf}
+use Rattle.grammar.specs.Faults.{forbidden, Faulty, Whole}
+use Rattle.grammar.specs.States.{Start, Word, Closed, Done, run, faultOf}
 use Rattle.grammar.proofs.Runs.{run-step}
 use Rattle.grammar.proofs.Reach.{reached}
 use Rattle.grammar.proofs.Stuck.{refuse, refuse-end}
 use Rattle.tasks.specs.declared.refusal.Refusal.{Refusal}
-use Rattle.reader.specs.Tokens.{rest, Went, Past, Strangely}
-use Rattle.reader.specs.Lines.{refusalFor, RefusedLine, ReadLine, LineSteps}
+use Rattle.reader.specs.Tokens.{rest, Went, Past}
+use Rattle.reader.specs.Lines.{RefusedLine, ReadLine, LineSteps}
 use Rattle.reader.specs.Progress.{Tells, Stuck, ReadForm}
 use Rattle.reader.specs.declared.reader.Line.{Line}
 use Rattle.reader.specs.declared.reader.Reader.{Reader}
 use Rattle.reader.specs.declared.reader.Spotted.{Spotted}
-use Rattle.reader.specs.declared.reader.Token.{Token}
 use Rattle.reader.specs.declared.reader.Token.the-variants as tokens
 use Rattle.reader.proofs.Stalled.{went-then, went-token, run-then}
 

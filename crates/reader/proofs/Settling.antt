@@ -12,28 +12,25 @@ use Rattle.std.specs.shelf.Lists.{All}
 use Rattle.std.proofs.shelf.Lists.{drop-more, length-take-le}
 use Rattle.std.proofs.shelf.Elements.{all-take, all-getD}
 use Rattle.std.proofs.shelf.Ways.{tells}
-use Rattle.std.specs.declared.option.Option.{Option}
 use Rattle.std.specs.declared.option.Option.the-variants.{Some, None}
 use Rattle.std.specs.declared.result.Result.{Result}
 use Rattle.std.specs.declared.result.Result.the-variants.{Ok, Err}
 use Rattle.grammar.specs.Kinds.{kind}
 use Rattle.grammar.specs.Forms.{Letter, Figure}
-use Rattle.grammar.specs.Faults.{Fault, forbidden, tooLong, tooDeep}
-use Rattle.grammar.specs.States.{State, Word, Item, Nought, Digits, Closed, Done, goes, after, from, run, faultOf}
+use Rattle.grammar.specs.States.{State, Word, Item, Nought, Digits, Closed, Done, goes, after, run, faultOf}
 use Rattle.grammar.specs.declared.kind.Kind.{Kind}
 use Rattle.grammar.specs.declared.kind.Kind.the-variants as kinds
 use Rattle.grammar.proofs.Steps.{is-letter, is-nought, is-digit, letter-kind, figure-kind, some-is, none-some, cond-yes, cond-no, lt-yes, lt-no, zero-no, taken, left-out}
 use Rattle.grammar.proofs.Runs.{run-step, run-word, run-digits, after-settled, word-settled}
 use Rattle.tasks.specs.declared.refusal.Refusal.{Refusal}
 use Rattle.tasks.specs.declared.refusal.Refusal.the-variants.{ForbiddenByte, LongNumber, DeepForm}
-use Rattle.reader.specs.Tokens.{rest, spells, Run, Ends, Maximal, Went, Past, Strangely}
+use Rattle.reader.specs.Tokens.{rest, Run, Ends, Maximal, Went, Past, Strangely}
 use Rattle.reader.specs.Lines.{refusalFor}
 use Rattle.reader.specs.Progress.{refused, wordRefusal, numberRefusal, Tells, Stuck, Forbids, Balks, Settled, ReadForm, ReadItem, ReadItems, FormSteps, ItemSteps}
 use Rattle.reader.specs.declared.reader.Reader.{Reader}
 use Rattle.reader.specs.declared.reader.Spotted.{Spotted}
-use Rattle.reader.specs.declared.reader.Token.{Token}
 use Rattle.reader.specs.declared.reader.Token.the-variants as tokens
-use Rattle.reader.proofs.Stalled.{went-none, went-then, went-token, run-then, stuck-later, stuck-here, stuck-strange, stuck-token, item-undone, word-undone, nought-undone, digits-undone, Heads, heads, no-space, no-close}
+use Rattle.reader.proofs.Stalled.{went-none, went-then, went-token, run-then, stuck-later, stuck-here, stuck-strange, stuck-token, item-undone, word-undone, nought-undone, digits-undone, heads, no-space, no-close}
 
 -- a run that is stuck at a byte after a front of the list
 stuck-at : (s t : State) (xs after : List ℕ) (n start : ℕ) {y : Refusal} → n < length xs → run s (take n xs) ≡ Some t → (t ≡ Done → ⊥) → goes t (kind (getD xs n 0)) ≡ None → y ≡ refusalFor (faultOf t (kind (getD xs n 0)) (start + n)) → Stuck s (xs ++ after) start y

@@ -1,17 +1,15 @@
 -- Readers that go on, and where a run from a state is stuck. Assumes nothing.
 use mathlib.Core.Path.{_≡_, refl, sym, ap, subst, _∙_}
 use mathlib.Core.Logic.{_⊎_, inl, inr}
-use mathlib.Core.List.{List, [], _∷_, _++_, append-assoc, append-nil}
-use Prim.Native.Nat.{ℕ, _+_, _-_, _<_, _≤_}
+use mathlib.Core.List.{List, [], _∷_, _++_, append-assoc}
+use Prim.Native.Nat.{ℕ, _+_}
 use native.Mathlib.Omega.{arith}
 use lib.ListN.{length, length-append}
 use denote.Ref.{RefT}
-use Rattle.std.specs.shelf.Lists.{All}
-use Rattle.std.specs.declared.option.Option.the-variants.{Some, None}
+use Rattle.std.specs.declared.option.Option.the-variants.{Some}
 use Rattle.grammar.specs.Kinds.{kind}
 use Rattle.grammar.specs.Forms.{Letter, Figure}
-use Rattle.grammar.specs.Faults.{Fault, forbidden}
-use Rattle.grammar.specs.States.{State, Start, Word, Item, Nought, Digits, Closed, Done, goes, from, run, faultOf}
+use Rattle.grammar.specs.States.{State, Start, Word, Item, Nought, Digits, Closed, Done, from, run}
 use Rattle.grammar.specs.declared.kind.Kind.{Kind}
 use Rattle.grammar.specs.declared.kind.Kind.the-variants as kinds
 use Rattle.grammar.proofs.Steps.{letter-kind, figure-kind}

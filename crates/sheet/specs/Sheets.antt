@@ -52,6 +52,10 @@ pub record Broken (bs : List ℕ) (table : Table) (y : Refusal) : Type 0 where
   pub granted : Granted bs table left
   pub refused : LaterRefused table (placeOf bs table left granted) left y
 
+-- the refusal is that of the sheet's first line, or of a later line after some that were granted
+abbrev pub SheetRefused : List ℕ → Refusal → Type 0
+SheetRefused bs y = FirstRefused 0 bs y ⊎ ((table : Table) × Broken bs table y)
+
 -- Every line is granted, and the draft holds their table; or the first line is refused, and the draft is as it was;
 -- or a later line is refused, and the draft holds the table of those before it.
 abbrev pub Reads : List ℕ → Draft → Result (Unit {0}) Refusal → Draft → Type 0

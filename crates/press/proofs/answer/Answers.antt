@@ -1,0 +1,21 @@
+use mathlib.Core.Path.{_≡_, refl, sym, ap, _∙_}
+use mathlib.Core.Logic.{_⊎_, inl, inr, ⊎-elim}
+use Rattle.tasks.specs.declared.refusal.Refusal.{Refusal}
+use Rattle.tasks.specs.Tables.{drafted, sealed}
+use Rattle.sheet.specs.Lines.{FirstRefused}
+use Rattle.sheet.specs.Sheets.{Broken, SheetRefused}
+use Rattle.writer.specs.Lines.{tableLine, refusalLine}
+use Rattle.press.proofs.answer.Needs as need
+
+pub returns-in-Ok : need.returns-in-Ok
+returns-in-Ok c =
+    record { line = tableLine (sealed (c .seal .result)); tells = inl (drafted (c .read-sheet .last .draft), c .in-Ok .ensures tt, ap tableLine (c .seal .ensures)); writes = c .write-table .ensures }
+
+pub returns-in-Err : need.returns-in-Err
+returns-in-Err c =
+    let bs = c .args .sheet .now in
+    let y = c .in-Err .refusal in
+    let draft = c .read-sheet .last .draft in
+    let refused : SheetRefused bs y =
+    ⊎-elim (λ (h : (draft ≡ c .new-draft .result) × FirstRefused 0 bs y). inl (h .1)) (λ (h : Broken bs (drafted draft) y). inr (drafted draft, h)) (c .in-Err .ensures tt) in
+    record { line = refusalLine y; tells = inr (y, refused, refl); writes = c .write-refusal .ensures }
