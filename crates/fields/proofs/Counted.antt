@@ -9,7 +9,7 @@ use lib.ListN.{length, take, length-append}
 use Rattle.std.proofs.shelf.Lists.{length-take, take-all, take-append-le, map-push}
 use Rattle.std.proofs.shelf.Elements.{all-push}
 use Rattle.std.proofs.shelf.Ways.{tells}
-use Rattle.grammar.specs.Forms.{renders, Figure, IsNumber}
+use Rattle.grammar.specs.Forms.{renders, IsDigit, IsNumber}
 use Rattle.grammar.proofs.Same.{rest-same, head-same, number-run}
 use Rattle.fields.specs.Wanted.{value, numerals, AreNumbers}
 use Rattle.fields.specs.Values.{countOf, Keeps}
@@ -44,7 +44,7 @@ numerals-push : (ns : List (List ℕ)) (d : List ℕ) → renders (numerals (ns 
 numerals-push [] d = ap (λ l. 32 ∷ l) (append-nil d)
 numerals-push (n ∷ ns) d = ap (λ l. 32 ∷ (n ++ l)) (numerals-push ns d) ∙ ap (λ l. 32 ∷ l) (sym (append-assoc n (renders (numerals ns)) (32 ∷ d)))
 
-no-figure : (ks : List (List ℕ)) (t : List ℕ) → NotFirst Figure (renders (numerals ks) ++ 41 ∷ t)
+no-figure : (ks : List (List ℕ)) (t : List ℕ) → NotFirst IsDigit (renders (numerals ks) ++ 41 ∷ t)
 no-figure [] t = λ h. omega (arith, h .0)
 no-figure (k ∷ ks) t = λ h. omega (arith, h .0)
 
@@ -75,7 +75,7 @@ sofar-more bs left rest r k k′ v s sp n push =
           (h .1, h .3, same .1);
     }
 
-pub numbers-none : (bs left rest : List ℕ) (k : Numbers) → Sofar bs left k → left ≡ 32 ∷ rest → ((ds t : List ℕ) → IsNumber ds → NotFirst Figure t → rest ≡ ds ++ t → ⊥) → (ns : List (List ℕ)) (t : List ℕ) → AreNumbers ns → bs ≡ renders (numerals ns) ++ 41 ∷ t → ⊥
+pub numbers-none : (bs left rest : List ℕ) (k : Numbers) → Sofar bs left k → left ≡ 32 ∷ rest → ((ds t : List ℕ) → IsNumber ds → NotFirst IsDigit t → rest ≡ ds ++ t → ⊥) → (ns : List (List ℕ)) (t : List ℕ) → AreNumbers ns → bs ≡ renders (numerals ns) ++ 41 ∷ t → ⊥
 numbers-none bs left rest k s sp never ns t l e =
     let q = s .forced ns t l e in
     let h = next-number left rest (q .0) t sp (q .1) (q .2) in

@@ -3,7 +3,7 @@ use mathlib.Core.Path.{_≡_, sym, ap, _∙_}
 use mathlib.Core.List.{List, [], _∷_, _++_, append-assoc, append-cancel-left}
 use Prim.Native.Nat.{ℕ}
 use native.Mathlib.Omega.{arith}
-use Rattle.grammar.specs.Forms.{renders, Figure, IsNumber}
+use Rattle.grammar.specs.Forms.{renders, IsDigit, IsNumber}
 use Rattle.grammar.proofs.Same.{rest-same, number-run}
 use Rattle.fields.specs.Wanted.{numerals, AreNumbers}
 use Rattle.fields.specs.Pieces.{NotFirst, TookNumber, Took, HasValue, HasValues, fieldBytes, listBytes, TookNumbers}
@@ -25,7 +25,7 @@ module _ (name bs r : List ℕ) (is : bs ≡ name ++ r) where
   around : (x r′ r″ : List ℕ) → r ≡ x ++ r′ → r′ ≡ 41 ∷ r″ → bs ≡ (name ++ (x ++ 41 ∷ [])) ++ r″
   around x r′ r″ e c = is ∙ ap (λ l. name ++ l) (e ∙ ap (λ l. x ++ l) c) ∙ sym (regroup name x r″)
 
-  pub field-number : ((ds t : List ℕ) → IsNumber ds → NotFirst Figure t → r ≡ ds ++ t → ⊥) → (y t : List ℕ) → IsNumber y → bs ≡ fieldBytes name y ++ t → ⊥
+  pub field-number : ((ds t : List ℕ) → IsNumber ds → NotFirst IsDigit t → r ≡ ds ++ t → ⊥) → (y t : List ℕ) → IsNumber y → bs ≡ fieldBytes name y ++ t → ⊥
   field-number never y t l e = never y (41 ∷ t) l (λ h. omega (arith, h .0)) (inside y t e)
 
   pub list-numbers : ((ns : List (List ℕ)) (t : List ℕ) → AreNumbers ns → r ≡ renders (numerals ns) ++ 41 ∷ t → ⊥) → (y : List (List ℕ)) (t : List ℕ) → AreNumbers y → bs ≡ listBytes name y ++ t → ⊥

@@ -10,7 +10,7 @@ use lib.ListN.{length}
 use Rattle.std.proofs.shelf.Ways.{tells}
 use Rattle.std.specs.shelf.Lists.{All}
 use Rattle.std.specs.declared.option.Option.the-variants.{Some, None}
-use Rattle.grammar.specs.Forms.{Form, line, Letter, IsWord, IsNumber, Lawful, Lawfuls}
+use Rattle.grammar.specs.Forms.{Form, line, IsLetter, IsWord, IsNumber, Lawful, Lawfuls}
 use Rattle.grammar.proofs.Same.{lawful-spelt, line-same}
 use Rattle.fields.specs.Wanted.{value, numerals, sheetForm, Written, taskForm, AreNumbers, IsTask}
 use Rattle.fields.specs.Values.{Keeps, HasTask, CoresOf, TaskOf}
@@ -22,7 +22,7 @@ abbrev lettersb : List ℕ → Bool
 lettersb [] = true
 lettersb (c ∷ cs) = (leb 97 c && leb c 122) && lettersb cs
 
-all-letters : (w : List ℕ) → lettersb w ≡ true → All Letter w
+all-letters : (w : List ℕ) → lettersb w ≡ true → All IsLetter w
 all-letters [] e = tt
 all-letters (c ∷ cs) e = ((grind (arith, tells), grind (arith, tells)), all-letters cs (grind (arith, tells)))
 
@@ -74,6 +74,24 @@ lawful-task w l =
       blocks = lawful-numerals (w .blocks) _ (d .0 .1);
       points = lawful-numerals (w .points) _ (d .1 .0 .1);
     }
+
+-- a wanted form has its numbers in one way
+
+numerals-same : (ns ms : List (List ℕ)) → numerals ns ≡ numerals ms → ns ≡ ms
+numerals-same [] [] e = refl
+numerals-same [] (m ∷ ms) e = let z : _≡_ {A = ℕ} 0 1 = cc in absurd (omega arith)
+numerals-same (n ∷ ns) [] e = let z : _≡_ {A = ℕ} 0 1 = cc in absurd (omega arith)
+numerals-same (n ∷ ns) (m ∷ ms) e = let rest = numerals-same ns ms (cc) in cc
+
+pub sheet-same : (ds es : List ℕ) → sheetForm ds ≡ sheetForm es → ds ≡ es
+sheet-same ds es e = cc
+
+pub task-same : (v w : Written) → taskForm v ≡ taskForm w → v ≡ w
+task-same v w e =
+    let blocks = numerals-same (v .blocks) (w .blocks) (cc) in
+    let points = numerals-same (v .points) (w .points) (cc) in
+    let alike : (f : List ℕ → List ℕ → List ℕ → List (List ℕ) → List (List ℕ) → Written) → f (v .id) (v .period) (v .deadline) (v .blocks) (v .points) ≡ f (w .id) (w .period) (w .deadline) (w .blocks) (w .points) = λ f. cc in
+    alike (λ i p d bs ps. record { id = i; period = p; deadline = d; blocks = bs; points = ps })
 
 same-line : (f g : Form) → Lawful f 4 → Lawful g 4 → line f ≡ line g → f ≡ g
 same-line f g p q e = line-same f g (lawful-spelt f 4 p) (lawful-spelt g 4 q) [] [] (append-nil (line f) ∙ e ∙ sym (append-nil (line g))) .0

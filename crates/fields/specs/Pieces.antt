@@ -5,7 +5,7 @@ use mathlib.Core.List.{List, [], _∷_, _++_, map}
 use Prim.Native.Nat.{ℕ}
 use Rattle.std.specs.declared.option.Option.{Option}
 use Rattle.std.specs.declared.option.Option.the-variants.{Some, None}
-use Rattle.grammar.specs.Forms.{renders, Figure, IsNumber}
+use Rattle.grammar.specs.Forms.{renders, IsDigit, IsNumber}
 use Rattle.fields.specs.Wanted.{value, numerals, AreNumbers}
 use Rattle.fields.specs.Values.{Keeps}
 use Rattle.fields.specs.declared.values.Numbers.{Numbers}
@@ -24,13 +24,13 @@ Skips text bs false r = (r ≡ bs) × ((t : List ℕ) → bs ≡ text ++ t → �
 pub record TookNumber (bs : List ℕ) (v : ℕ) (r : List ℕ) : Type 0 where
   pub digits : List ℕ
   pub lawful : IsNumber digits
-  pub ends : NotFirst Figure r
+  pub ends : NotFirst IsDigit r
   pub is : bs ≡ digits ++ r
   pub means : v ≡ value digits
 
 -- The digits that stood first are passed as a number, or they are no lawful number.
 abbrev pub TakesNumber : List ℕ → Option ℕ → List ℕ → Type 0
-TakesNumber bs None r = (ds t : List ℕ) → IsNumber ds → NotFirst Figure t → bs ≡ ds ++ t → ⊥
+TakesNumber bs None r = (ds t : List ℕ) → IsNumber ds → NotFirst IsDigit t → bs ≡ ds ++ t → ⊥
 TakesNumber bs (Some v) r = TookNumber bs v r
 
 -- A lawful x, as it is written, stood first and was passed, and v means it.

@@ -8,11 +8,11 @@ use lib.ListN.{length, length-append}
 use Rattle.std.specs.declared.option.Option.{Option}
 use Rattle.std.specs.declared.option.Option.the-variants.{Some, None}
 use Rattle.grammar.specs.Kinds.{kind}
-use Rattle.grammar.specs.Forms.{Form, Figure, line, Lawful}
+use Rattle.grammar.specs.Forms.{Form, IsDigit, line, Lawful}
 use Rattle.grammar.specs.Faults.{Begins, Whole, First, Stops, Halts, Eighth, Fifth, Forbidden, TooLong, TooDeep, AtOffset, Faulty, Leads}
 use Rattle.grammar.specs.States.{goes, from, run, faultOf}
 use Rattle.grammar.specs.Faults.{Fault, forbidden, tooLong, tooDeep}
-use Rattle.grammar.specs.States.{State, Start, Word, Item, Nought, Digits, Closed, Done}
+use Rattle.grammar.specs.States.{State, Start, Word, Item, Zero, Digits, Closed, Done}
 use Rattle.grammar.proofs.Steps.{some-is, none-some}
 use Rattle.grammar.proofs.Runs.{from-append, run-line}
 use Rattle.grammar.proofs.Reach.{reached}
@@ -25,7 +25,7 @@ done-or-not : (s : State) → (s ≡ Done) ⊎ (s ≡ Done → ⊥)
 done-or-not Start = inr (λ e. let z : _≡_ {A = ℕ} 0 1 = cc in omega arith)
 done-or-not (Word d n) = inr (λ e. let z : _≡_ {A = ℕ} 0 1 = cc in omega arith)
 done-or-not (Item d) = inr (λ e. let z : _≡_ {A = ℕ} 0 1 = cc in omega arith)
-done-or-not (Nought d) = inr (λ e. let z : _≡_ {A = ℕ} 0 1 = cc in omega arith)
+done-or-not (Zero d) = inr (λ e. let z : _≡_ {A = ℕ} 0 1 = cc in omega arith)
 done-or-not (Digits d n) = inr (λ e. let z : _≡_ {A = ℕ} 0 1 = cc in omega arith)
 done-or-not (Closed d) = inr (λ e. let z : _≡_ {A = ℕ} 0 1 = cc in omega arith)
 done-or-not Done = inl refl
@@ -127,7 +127,7 @@ fifth-by p q p′ q′ u e g = subst (λ x. Fifth p′ x u) (e .1) (subst (λ x.
 eighth-fifth : (p q u ds v : List ℕ) → Eighth p q u ds → Fifth p q v → ⊥
 eighth-fifth p q u ds v a b = cases q (a .next) (b .next)
   where
-    cases : (q : List ℕ) → First Figure q → First (λ c. c ≡ 40) q → ⊥
+    cases : (q : List ℕ) → First IsDigit q → First (λ c. c ≡ 40) q → ⊥
     cases [] x y = x
     cases (c ∷ q) x y = omega (arith, x .0, y)
 

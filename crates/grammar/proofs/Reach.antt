@@ -12,14 +12,14 @@ use Rattle.std.specs.shelf.Lists.{All}
 use Rattle.std.specs.declared.option.Option.{Option}
 use Rattle.std.specs.declared.option.Option.the-variants.{Some, None}
 use Rattle.grammar.specs.Kinds.{kind}
-use Rattle.grammar.specs.Forms.{Form, form, Items, none, more, number, nested, Letter, Figure, IsWord, IsNumber, render, renderItem, renders, line, Lawful, LawfulItem, Lawfuls}
+use Rattle.grammar.specs.Forms.{Form, form, Items, none, more, number, nested, IsLetter, IsDigit, IsWord, IsNumber, render, renderItem, renders, line, Lawful, LawfulItem, Lawfuls}
 use Rattle.grammar.specs.Forms as forms
 use Rattle.grammar.specs.Faults.{Begins, Whole}
 use Rattle.grammar.specs.States.{goes, after, from, run}
 use Rattle.grammar.specs.declared.kind.Kind.{Kind}
 use Rattle.grammar.specs.declared.kind.Kind.the-variants as kinds
-use Rattle.grammar.specs.States.{State, Start, Word, Item, Nought, Digits, Closed, Done}
-use Rattle.grammar.proofs.Steps.{is-open, is-close, is-space, is-feed, is-letter, is-nought, is-digit, some-is, none-some, taken, not-zero, only-zero}
+use Rattle.grammar.specs.States.{State, Start, Word, Item, Zero, Digits, Closed, Done}
+use Rattle.grammar.proofs.Steps.{is-open, is-close, is-space, is-feed, is-letter, is-zero, is-digit, some-is, none-some, taken, not-zero, only-zero}
 
 -- one item more
 
@@ -97,7 +97,7 @@ pub record Spelling (d n : ℕ) (p : List ℕ) : Type 0 where
   pub word : List ℕ
   pub room : Room outer (suc allow)
   pub deep : depth outer + 1 ≡ d
-  pub letters : All Letter word
+  pub letters : All IsLetter word
   pub long : length word ≡ n
   pub fits : n ≤ 8
   pub is : p ≡ written outer ++ 40 ∷ word
@@ -110,7 +110,7 @@ pub record Counting (d n : ℕ) (p : List ℕ) : Type 0 where
   pub others : List ℕ
   pub low : 49 ≤ first
   pub high : first ≤ 57
-  pub figures : All Figure others
+  pub figures : All IsDigit others
   pub long : length others + 1 ≡ n
   pub fits : n ≤ 7
   pub is : p ≡ before ++ 32 ∷ (first ∷ others)
@@ -132,7 +132,7 @@ abbrev pub Reach : State → List ℕ → Type 0
 Reach Start p = p ≡ []
 Reach (Word d n) p = Spelling d n p
 Reach (Item d) p = Behind d p (32 ∷ [])
-Reach (Nought d) p = Behind d p (32 ∷ 48 ∷ [])
+Reach (Zero d) p = Behind d p (32 ∷ 48 ∷ [])
 Reach (Digits d n) p = Counting d n p
 Reach (Closed d) p = Rested d p
 Reach Done p = Whole p
@@ -156,8 +156,8 @@ with-item d p before i g l e =
       is = e ∙ ap (λ l. l ++ 32 ∷ renderItem i) (g .is) ∙ regroup-more (written (g .outer)) (g .word) (renders (g .items)) (renderItem i) ∙ ap (λ l. written (g .outer) ++ 40 ∷ (g .word ++ l)) (sym (renders-snoc (g .items) i));
     }
 
-is-nought-number : IsNumber (48 ∷ [])
-is-nought-number = ((omega arith, omega arith), tt, omega arith, λ e. refl)
+is-zero-number : IsNumber (48 ∷ [])
+is-zero-number = ((omega arith, omega arith), tt, omega arith, λ e. refl)
 
 counted-number : {d n : ℕ} {p : List ℕ} (g : Counting d n p) → IsNumber (g .first ∷ g .others)
 counted-number g = ((omega (arith, g .low), g .high), g .figures, omega (arith, g .long, g .fits), λ e. absurd (omega (arith, g .low, e)))
@@ -177,7 +177,7 @@ within-word d n p h g =
     }
 
 within-nought : (d : ℕ) (p : List ℕ) → Behind d p (32 ∷ 48 ∷ []) → Within d p
-within-nought d p g = with-item d p (g .before) (number (48 ∷ [])) (g .within) is-nought-number (g .is)
+within-nought d p g = with-item d p (g .before) (number (48 ∷ [])) (g .within) is-zero-number (g .is)
 
 within-digits : (d n : ℕ) (p : List ℕ) → Counting d n p → Within d p
 within-digits d n p g = with-item d p (g .before) (number (g .first ∷ g .others)) (g .within) (counted-number g) (g .is)
@@ -200,10 +200,10 @@ within-begins d p g =
 shorter : (p q : List ℕ) → Begins (p ++ q) → Begins p
 shorter p q b = record { tree = b .tree; lawful = b .lawful; left = q ++ b .left; is = b .is ∙ append-assoc p q (b .left) }
 
-letter-a : All Letter (97 ∷ [])
+letter-a : All IsLetter (97 ∷ [])
 letter-a = ((omega arith, omega arith), tt)
 
-spelling-more : (d n c : ℕ) (p : List ℕ) → n < 8 → Letter c → Spelling d n p → Spelling d (n + 1) (p ++ c ∷ [])
+spelling-more : (d n c : ℕ) (p : List ℕ) → n < 8 → IsLetter c → Spelling d n p → Spelling d (n + 1) (p ++ c ∷ [])
 spelling-more d n c p h k g =
     record {
       outer = g .outer;
@@ -217,11 +217,11 @@ spelling-more d n c p h k g =
       is = ap (λ l. l ++ c ∷ []) (g .is) ∙ append-assoc (written (g .outer)) (40 ∷ g .word) (c ∷ []);
     }
   where
-    all-one : (w : List ℕ) → All Letter w → All Letter (w ++ c ∷ [])
+    all-one : (w : List ℕ) → All IsLetter w → All IsLetter (w ++ c ∷ [])
     all-one [] a = (k, tt)
     all-one (x ∷ w) a = (a .0, all-one w (a .1))
 
-counting-more : (d n c : ℕ) (p : List ℕ) → n < 7 → Figure c → Counting d n p → Counting d (n + 1) (p ++ c ∷ [])
+counting-more : (d n c : ℕ) (p : List ℕ) → n < 7 → IsDigit c → Counting d n p → Counting d (n + 1) (p ++ c ∷ [])
 counting-more d n c p h k g =
     record {
       before = g .before;
@@ -236,7 +236,7 @@ counting-more d n c p h k g =
       is = ap (λ l. l ++ c ∷ []) (g .is) ∙ append-assoc (g .before) (32 ∷ (g .first ∷ g .others)) (c ∷ []);
     }
   where
-    all-one : (w : List ℕ) → All Figure w → All Figure (w ++ c ∷ [])
+    all-one : (w : List ℕ) → All IsDigit w → All IsDigit (w ++ c ∷ [])
     all-one [] a = (k, tt)
     all-one (x ∷ w) a = (a .0, all-one w (a .1))
 
@@ -249,7 +249,7 @@ reach-begins (Word d n) p r = cases (ltb 0 n) refl
     cases false e = shorter p (97 ∷ []) (within-begins d (p ++ 97 ∷ []) (within-word d (n + 1) (p ++ 97 ∷ []) (omega arith) (spelling-more d n 97 p (grind (arith, tells)) (omega arith, omega arith) r)))
 reach-begins (Item d) p r =
     shorter p (48 ∷ []) (within-begins d (p ++ 48 ∷ []) (within-nought d (p ++ 48 ∷ []) (record { before = r .before; within = r .within; is = ap (λ l. l ++ 48 ∷ []) (r .is) ∙ append-assoc (r .before) (32 ∷ []) (48 ∷ []) })))
-reach-begins (Nought d) p r = within-begins d p (within-nought d p r)
+reach-begins (Zero d) p r = within-begins d p (within-nought d p r)
 reach-begins (Digits d n) p r = within-begins d p (within-digits d n p r)
 reach-begins (Closed d) p (inl r) = record { tree = r .1 .tree; lawful = r .1 .lawful; left = 10 ∷ []; is = ap (λ l. l ++ 10 ∷ []) (sym (r .1 .is)) }
 reach-begins (Closed d) p (inr r) = within-begins d p r
@@ -292,15 +292,15 @@ rested-step d p c s kinds.Space r h e = cases r (not-zero d (Some (Item d)) e)
     cases : Rested d p → (0 < d) × (Some (Item d) ≡ Some s) → Reach s (p ++ c ∷ [])
     cases (inl f) q = absurd (omega (arith, f .0, q .0))
     cases (inr g) q = subst (λ t. Reach t (p ++ c ∷ [])) (some-is (q .1)) (record { before = p; within = g; is = ap (λ b. p ++ b ∷ []) (is-space c h) })
-rested-step d p c s kinds.Feed r h e = cases r (only-zero d e)
+rested-step d p c s kinds.LineFeed r h e = cases r (only-zero d e)
   where
     cases : Rested d p → (d ≡ 0) × (Done ≡ s) → Reach s (p ++ c ∷ [])
     cases (inr g) q = absurd (omega (arith, g .deep, q .0))
     cases (inl f) q = subst (λ t. Reach t (p ++ c ∷ [])) (q .1) (record { tree = f .1 .tree; lawful = f .1 .lawful; is = ap (λ l. l ++ 10 ∷ []) (sym (f .1 .is)) ∙ ap (λ b. p ++ b ∷ []) (sym (is-feed c h)) })
 rested-step d p c s kinds.Letter r h e = absurd (none-some e)
-rested-step d p c s kinds.Nought r h e = absurd (none-some e)
+rested-step d p c s kinds.Zero r h e = absurd (none-some e)
 rested-step d p c s kinds.Digit r h e = absurd (none-some e)
-rested-step d p c s kinds.Strange r h e = absurd (none-some e)
+rested-step d p c s kinds.Other r h e = absurd (none-some e)
 
 starts-step : (p : List ℕ) (c : ℕ) (s : State) (k : Kind) → p ≡ [] → kind c ≡ k → goes Start k ≡ Some s → Reach s (p ++ c ∷ [])
 starts-step p c s kinds.Open r h e =
@@ -308,21 +308,21 @@ starts-step p c s kinds.Open r h e =
     (record { outer = top; allow = 3; word = []; room = refl; deep = refl; letters = tt; long = refl; fits = omega arith; is = ap (λ l. l ++ c ∷ []) r ∙ ap (λ b. b ∷ []) (is-open c h) })
 starts-step p c s kinds.Close r h e = absurd (none-some e)
 starts-step p c s kinds.Space r h e = absurd (none-some e)
-starts-step p c s kinds.Feed r h e = absurd (none-some e)
+starts-step p c s kinds.LineFeed r h e = absurd (none-some e)
 starts-step p c s kinds.Letter r h e = absurd (none-some e)
-starts-step p c s kinds.Nought r h e = absurd (none-some e)
+starts-step p c s kinds.Zero r h e = absurd (none-some e)
 starts-step p c s kinds.Digit r h e = absurd (none-some e)
-starts-step p c s kinds.Strange r h e = absurd (none-some e)
+starts-step p c s kinds.Other r h e = absurd (none-some e)
 
 word-step : (d n : ℕ) (p : List ℕ) (c : ℕ) (s : State) (k : Kind) → Spelling d n p → kind c ≡ k → goes (Word d n) k ≡ Some s → Reach s (p ++ c ∷ [])
 word-step d n p c s kinds.Open r h e = absurd (none-some e)
 word-step d n p c s kinds.Close r h e = let q = not-zero n (after d kinds.Close) e in rested-step d p c s kinds.Close (inr (within-word d n p (q .0) r)) h (q .1)
 word-step d n p c s kinds.Space r h e = let q = not-zero n (after d kinds.Space) e in rested-step d p c s kinds.Space (inr (within-word d n p (q .0) r)) h (q .1)
-word-step d n p c s kinds.Feed r h e = let q = not-zero n (after d kinds.Feed) e in rested-step d p c s kinds.Feed (inr (within-word d n p (q .0) r)) h (q .1)
+word-step d n p c s kinds.LineFeed r h e = let q = not-zero n (after d kinds.LineFeed) e in rested-step d p c s kinds.LineFeed (inr (within-word d n p (q .0) r)) h (q .1)
 word-step d n p c s kinds.Letter r h e = let q = taken n 8 e in subst (λ t. Reach t (p ++ c ∷ [])) (q .1) (spelling-more d n c p (q .0) (is-letter c h) r)
-word-step d n p c s kinds.Nought r h e = absurd (none-some e)
+word-step d n p c s kinds.Zero r h e = absurd (none-some e)
 word-step d n p c s kinds.Digit r h e = absurd (none-some e)
-word-step d n p c s kinds.Strange r h e = absurd (none-some e)
+word-step d n p c s kinds.Other r h e = absurd (none-some e)
 
 deeper : (d : ℕ) (p : List ℕ) → d < 4 → Behind d p (32 ∷ []) → Spelling (d + 1) 0 (p ++ 40 ∷ [])
 deeper d p h g = cases (g .within .allow) (g .within .room) (g .within .lawful)
@@ -351,38 +351,38 @@ item-step d p c s kinds.Open r h e =
     subst (λ t. Reach t (p ++ c ∷ [])) (q .1) (subst (λ b. Spelling (d + 1) 0 (p ++ b ∷ [])) (sym (is-open c h)) (deeper d p (q .0) r))
 item-step d p c s kinds.Close r h e = absurd (none-some e)
 item-step d p c s kinds.Space r h e = absurd (none-some e)
-item-step d p c s kinds.Feed r h e = absurd (none-some e)
+item-step d p c s kinds.LineFeed r h e = absurd (none-some e)
 item-step d p c s kinds.Letter r h e = absurd (none-some e)
-item-step d p c s kinds.Nought r h e =
+item-step d p c s kinds.Zero r h e =
     subst (λ t. Reach t (p ++ c ∷ [])) (some-is e)
-    (record { before = r .before; within = r .within; is = ap (λ b. p ++ b ∷ []) (is-nought c h) ∙ ap (λ l. l ++ 48 ∷ []) (r .is) ∙ append-assoc (r .before) (32 ∷ []) (48 ∷ []) })
+    (record { before = r .before; within = r .within; is = ap (λ b. p ++ b ∷ []) (is-zero c h) ∙ ap (λ l. l ++ 48 ∷ []) (r .is) ∙ append-assoc (r .before) (32 ∷ []) (48 ∷ []) })
 item-step d p c s kinds.Digit r h e =
     let k = is-digit c h in
     subst (λ t. Reach t (p ++ c ∷ [])) (some-is e)
     (record { before = r .before; within = r .within; first = c; others = []; low = k .0; high = k .1; figures = tt; long = refl; fits = omega arith; is = ap (λ l. l ++ c ∷ []) (r .is) ∙ append-assoc (r .before) (32 ∷ []) (c ∷ []) })
-item-step d p c s kinds.Strange r h e = absurd (none-some e)
+item-step d p c s kinds.Other r h e = absurd (none-some e)
 
 digits-step : (d n : ℕ) (p : List ℕ) (c : ℕ) (s : State) (k : Kind) → Counting d n p → kind c ≡ k → goes (Digits d n) k ≡ Some s → Reach s (p ++ c ∷ [])
 digits-step d n p c s kinds.Open r h e = absurd (none-some e)
 digits-step d n p c s kinds.Close r h e = rested-step d p c s kinds.Close (inr (within-digits d n p r)) h e
 digits-step d n p c s kinds.Space r h e = rested-step d p c s kinds.Space (inr (within-digits d n p r)) h e
-digits-step d n p c s kinds.Feed r h e = rested-step d p c s kinds.Feed (inr (within-digits d n p r)) h e
+digits-step d n p c s kinds.LineFeed r h e = rested-step d p c s kinds.LineFeed (inr (within-digits d n p r)) h e
 digits-step d n p c s kinds.Letter r h e = absurd (none-some e)
-digits-step d n p c s kinds.Nought r h e =
+digits-step d n p c s kinds.Zero r h e =
     let q = taken n 7 e in
-    let k = is-nought c h in
+    let k = is-zero c h in
     subst (λ t. Reach t (p ++ c ∷ [])) (q .1) (counting-more d n c p (q .0) (omega arith, omega arith) r)
 digits-step d n p c s kinds.Digit r h e =
     let q = taken n 7 e in
     let k = is-digit c h in
     subst (λ t. Reach t (p ++ c ∷ [])) (q .1) (counting-more d n c p (q .0) (omega (arith, k .0), k .1) r)
-digits-step d n p c s kinds.Strange r h e = absurd (none-some e)
+digits-step d n p c s kinds.Other r h e = absurd (none-some e)
 
 step-reach : (s : State) (p : List ℕ) (c : ℕ) (t : State) → Reach s p → goes s (kind c) ≡ Some t → Reach t (p ++ c ∷ [])
 step-reach Start p c t r e = starts-step p c t (kind c) r refl e
 step-reach (Word d n) p c t r e = word-step d n p c t (kind c) r refl e
 step-reach (Item d) p c t r e = item-step d p c t (kind c) r refl e
-step-reach (Nought d) p c t r e = rested-step d p c t (kind c) (inr (within-nought d p r)) refl e
+step-reach (Zero d) p c t r e = rested-step d p c t (kind c) (inr (within-nought d p r)) refl e
 step-reach (Digits d n) p c t r e = digits-step d n p c t (kind c) r refl e
 step-reach (Closed d) p c t r e = rested-step d p c t (kind c) r refl e
 step-reach Done p c t r e = absurd (none-some e)

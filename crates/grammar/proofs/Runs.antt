@@ -8,17 +8,18 @@ use native.Mathlib.Omega.{arith}
 use lib.ListN.{length}
 use lib.Dec.{eqb, ltb}
 use Rattle.std.proofs.shelf.Ways.{tells}
+use Rattle.std.proofs.shelf.Tests.{cond-false, cond-true, lt-ltb}
 use Rattle.std.specs.shelf.Lists.{All}
 use Rattle.std.specs.declared.option.Option.{Option}
 use Rattle.std.specs.declared.option.Option.the-variants.{Some, None}
 use Rattle.grammar.specs.Kinds.{kind}
-use Rattle.grammar.specs.Forms.{Form, form, Items, none, more, number, nested, Letter, Figure, IsWord, IsNumber, render, renderItem, renders, line, Lawful, LawfulItem, Lawfuls}
+use Rattle.grammar.specs.Forms.{Form, form, Items, none, more, number, nested, IsLetter, IsDigit, IsWord, IsNumber, render, renderItem, renders, line, Lawful, LawfulItem, Lawfuls}
 use Rattle.grammar.specs.Forms as forms
 use Rattle.grammar.specs.States.{goes, after, from, run}
 use Rattle.grammar.specs.declared.kind.Kind.{Kind}
 use Rattle.grammar.specs.declared.kind.Kind.the-variants as kinds
-use Rattle.grammar.specs.States.{State, Start, Word, Item, Nought, Digits, Closed, Done}
-use Rattle.grammar.proofs.Steps.{letter-kind, digit-kind, figure-kind, some-is, none-some, cond-yes, cond-no, lt-yes, zero-no}
+use Rattle.grammar.specs.States.{State, Start, Word, Item, Zero, Digits, Closed, Done}
+use Rattle.grammar.proofs.Steps.{letter-kind, digit-kind, figure-kind, some-is, none-some, zero-no}
 
 pub from-append : (o : Option State) (p q : List ℕ) → from o (p ++ q) ≡ from (from o p) q
 from-append None p q = refl
@@ -41,30 +42,30 @@ abbrev pub Settled : State → ℕ → Type 0
 Settled s d = (goes s kinds.Space ≡ Some (Item d)) × (goes s kinds.Close ≡ Some (Closed (d - 1)))
 
 pub after-settled : (d : ℕ) → 0 < d → (after d kinds.Space ≡ Some (Item d)) × (after d kinds.Close ≡ Some (Closed (d - 1)))
-after-settled d h = (cond-no (eqb d 0) None (Some (Item d)) (zero-no d h), cond-no (eqb d 0) None (Some (Closed (d - 1))) (zero-no d h))
+after-settled d h = (cond-false (eqb d 0) None (Some (Item d)) (zero-no d h), cond-false (eqb d 0) None (Some (Closed (d - 1))) (zero-no d h))
 
 pub word-settled : (d n : ℕ) → 0 < d → 0 < n → Settled (Word d n) d
 word-settled d n h k =
-    (cond-no (eqb n 0) None (after d kinds.Space) (zero-no n k) ∙ after-settled d h .0, cond-no (eqb n 0) None (after d kinds.Close) (zero-no n k) ∙ after-settled d h .1)
+    (cond-false (eqb n 0) None (after d kinds.Space) (zero-no n k) ∙ after-settled d h .0, cond-false (eqb n 0) None (after d kinds.Close) (zero-no n k) ∙ after-settled d h .1)
 
-pub run-word : (w : List ℕ) (d m : ℕ) (t : List ℕ) → All Letter w → m + length w ≤ 8 → run (Word d m) (w ++ t) ≡ run (Word d (m + length w)) t
+pub run-word : (w : List ℕ) (d m : ℕ) (t : List ℕ) → All IsLetter w → m + length w ≤ 8 → run (Word d m) (w ++ t) ≡ run (Word d (m + length w)) t
 run-word [] d m t a h = ap (λ n. run (Word d n) t) (let z : m ≡ m + 0 = omega arith in z)
 run-word (c ∷ w) d m t a h =
-    let one : goes (Word d m) (kind c) ≡ Some (Word d (m + 1)) = ap (goes (Word d m)) (letter-kind c (a .0)) ∙ cond-yes (ltb m 8) (Some (Word d (m + 1))) None (lt-yes m 8 (omega arith)) in
+    let one : goes (Word d m) (kind c) ≡ Some (Word d (m + 1)) = ap (goes (Word d m)) (letter-kind c (a .0)) ∙ cond-true (ltb m 8) (Some (Word d (m + 1))) None (lt-ltb m 8 (omega arith)) in
     let long : m + 1 + length w ≡ m + length (c ∷ w) = omega arith in
     run-step (Word d m) (Word d (m + 1)) c (w ++ t) one ∙ run-word w d (m + 1) t (a .1) (omega arith) ∙ ap (λ n. run (Word d n) t) long
 
-count-step : (d m c : ℕ) → Figure c → m < 7 → goes (Digits d m) (kind c) ≡ Some (Digits d (m + 1))
+count-step : (d m c : ℕ) → IsDigit c → m < 7 → goes (Digits d m) (kind c) ≡ Some (Digits d (m + 1))
 count-step d m c f h = cases (figure-kind c f)
   where
     yes : cond (ltb m 7) (Some (Digits d (m + 1))) None ≡ Some (Digits d (m + 1))
-    yes = cond-yes (ltb m 7) (Some (Digits d (m + 1))) None (lt-yes m 7 h)
+    yes = cond-true (ltb m 7) (Some (Digits d (m + 1))) None (lt-ltb m 7 h)
 
-    cases : (kind c ≡ kinds.Nought) ⊎ (kind c ≡ kinds.Digit) → goes (Digits d m) (kind c) ≡ Some (Digits d (m + 1))
+    cases : (kind c ≡ kinds.Zero) ⊎ (kind c ≡ kinds.Digit) → goes (Digits d m) (kind c) ≡ Some (Digits d (m + 1))
     cases (inl e) = ap (goes (Digits d m)) e ∙ yes
     cases (inr e) = ap (goes (Digits d m)) e ∙ yes
 
-pub run-digits : (cs : List ℕ) (d m : ℕ) (t : List ℕ) → All Figure cs → m + length cs ≤ 7 → run (Digits d m) (cs ++ t) ≡ run (Digits d (m + length cs)) t
+pub run-digits : (cs : List ℕ) (d m : ℕ) (t : List ℕ) → All IsDigit cs → m + length cs ≤ 7 → run (Digits d m) (cs ++ t) ≡ run (Digits d (m + length cs)) t
 run-digits [] d m t a h = ap (λ n. run (Digits d n) t) (let z : m ≡ m + 0 = omega arith in z)
 run-digits (c ∷ cs) d m t a h =
     let long : m + 1 + length cs ≡ m + length (c ∷ cs) = omega arith in
@@ -79,15 +80,15 @@ run-number : (ds : List ℕ) (d : ℕ) (t : List ℕ) → 0 < d → IsNumber ds 
 run-number [] d t h n = absurd n
 run-number (c ∷ cs) d t h n = cases (figure-kind c (n .0))
   where
-    tail-none : c ≡ 48 → run (Nought d) (cs ++ t) ≡ run (Nought d) t
-    tail-none e = ap (λ l. run (Nought d) (l ++ t)) (n .3 e)
+    tail-none : c ≡ 48 → run (Zero d) (cs ++ t) ≡ run (Zero d) t
+    tail-none e = ap (λ l. run (Zero d) (l ++ t)) (n .3 e)
 
-    cases : (kind c ≡ kinds.Nought) ⊎ (kind c ≡ kinds.Digit) → RunsItem d (c ∷ cs) t
+    cases : (kind c ≡ kinds.Zero) ⊎ (kind c ≡ kinds.Digit) → RunsItem d (c ∷ cs) t
     cases (inl e) =
         record {
-          state = Nought d;
+          state = Zero d;
           settled = after-settled d h;
-          runs = run-step (Item d) (Nought d) c (cs ++ t) (ap (goes (Item d)) e) ∙ tail-none (grind (arith, tells));
+          runs = run-step (Item d) (Zero d) c (cs ++ t) (ap (goes (Item d)) e) ∙ tail-none (grind (arith, tells));
         }
     cases (inr e) =
         record {
@@ -122,7 +123,7 @@ mutual
       record {
         state = Closed d;
         settled = after-settled d p;
-        runs = run-form f (suc n) d (Item d) t l h (cond-yes (ltb d 4) (Some (Word (d + 1) 0)) None (lt-yes d 4 (omega arith)));
+        runs = run-form f (suc n) d (Item d) t l h (cond-true (ltb d 4) (Some (Word (d + 1) 0)) None (lt-ltb d 4 (omega arith)));
       }
 
   run-items : (is : Items) (n d : ℕ) (s : State) (t : List ℕ) → Lawfuls is n → 0 < d → d + n ≡ 4 → Settled s d → run s (renders is ++ 41 ∷ t) ≡ run (Closed (d - 1)) t

@@ -5,7 +5,7 @@ use Prim.Native.Nat.{ℕ, zero, suc, _<_, _≤_}
 use native.Mathlib.Omega.{arith}
 use lib.ListN.{length}
 use Rattle.std.specs.shelf.Lists.{All}
-use Rattle.grammar.specs.Forms.{Form, Item, Items, form, number, nested, none, more, render, renderItem, renders, line, Letter, Figure, IsNumber, Lawful, LawfulItem, Lawfuls}
+use Rattle.grammar.specs.Forms.{Run, Ends, Form, Item, Items, form, number, nested, none, more, render, renderItem, renders, line, IsLetter, IsDigit, IsNumber, Lawful, LawfulItem, Lawfuls}
 use Rattle.grammar.proofs.Runs.{write-form, write-more}
 
 abbrev tl : List ℕ → List ℕ
@@ -22,15 +22,6 @@ rest-same e = ap tl e
 pub head-same : {x y : ℕ} {xs ys : List ℕ} → x ∷ xs ≡ y ∷ ys → x ≡ y
 head-same e = ap hd e
 
--- what follows is no P
-abbrev pub Ends : (ℕ → Type 0) → List ℕ → Type 0
-Ends P [] = Unit {0}
-Ends P (c ∷ cs) = P c → ⊥
-
--- some bytes, each of them P
-abbrev pub Run : (ℕ → Type 0) → List ℕ → Type 0
-Run P w = (0 < length w) × All P w
-
 pub run-clash : (P : ℕ → Type 0) (w t s : List ℕ) → Run P w → Ends P s → w ++ t ≡ s → ⊥
 run-clash P [] t s r h e = omega (arith, r .0)
 run-clash P (x ∷ w) t s r h e = subst (Ends P) (sym e) h (r .1 .0)
@@ -46,17 +37,17 @@ runs-same P (a ∷ w) (b ∷ v) x y p q h g e =
 -- words and numbers of any length, at any depth
 abbrev mutual
   pub Spelt : Form → Type 0
-  Spelt (form w is) = Run Letter w × Spelts is
+  Spelt (form w is) = Run IsLetter w × Spelts is
 
   pub SpeltItem : Item → Type 0
-  SpeltItem (number d) = Run Figure d
+  SpeltItem (number d) = Run IsDigit d
   SpeltItem (nested f) = Spelt f
 
   pub Spelts : Items → Type 0
   Spelts none = Unit {0}
   Spelts (more i is) = SpeltItem i × Spelts is
 
-pub number-run : (d : List ℕ) → IsNumber d → Run Figure d
+pub number-run : (d : List ℕ) → IsNumber d → Run IsDigit d
 number-run [] n = absurd n
 number-run (c ∷ cs) n = (omega arith, (n .0, n .1))
 
@@ -73,26 +64,26 @@ mutual
   lawfuls-spelt none n l = tt
   lawfuls-spelt (more i is) n l = (lawful-item-spelt i n (l .0), lawfuls-spelt is n (l .1))
 
-items-letters : (is : Items) (t : List ℕ) → Ends Letter (renders is ++ 41 ∷ t)
+items-letters : (is : Items) (t : List ℕ) → Ends IsLetter (renders is ++ 41 ∷ t)
 items-letters none t = λ h. omega (arith, h .0)
 items-letters (more i is) t = λ h. omega (arith, h .0)
 
-items-figures : (is : Items) (t : List ℕ) → Ends Figure (renders is ++ 41 ∷ t)
+items-figures : (is : Items) (t : List ℕ) → Ends IsDigit (renders is ++ 41 ∷ t)
 items-figures none t = λ h. omega (arith, h .0)
 items-figures (more i is) t = λ h. omega (arith, h .0)
 
-form-number : (f : Form) (d t s : List ℕ) → Run Figure d → render f ++ t ≡ d ++ s → ⊥
-form-number (form w is) d t s r e = run-clash Figure d s (render (form w is) ++ t) r (λ h. omega (arith, h .0)) (sym e)
+form-number : (f : Form) (d t s : List ℕ) → Run IsDigit d → render f ++ t ≡ d ++ s → ⊥
+form-number (form w is) d t s r e = run-clash IsDigit d s (render (form w is) ++ t) r (λ h. omega (arith, h .0)) (sym e)
 
 mutual
   pub form-same : (f g : Form) → Spelt f → Spelt g → (t s : List ℕ) → render f ++ t ≡ render g ++ s → (f ≡ g) × (t ≡ s)
   form-same (form w is) (form v js) p q t s e =
-      let a = runs-same Letter w v _ _ (p .0 .1) (q .0 .1) (items-letters is t) (items-letters js s) (rest-same (sym (write-form w is t) ∙ e ∙ write-form v js s)) in
+      let a = runs-same IsLetter w v _ _ (p .0 .1) (q .0 .1) (items-letters is t) (items-letters js s) (rest-same (sym (write-form w is t) ∙ e ∙ write-form v js s)) in
       let b = items-same is js (p .1) (q .1) t s (a .1) in
       (ap (λ u. form u is) (a .0) ∙ ap (form v) (b .0), b .1)
 
-  item-same : (i j : Item) → SpeltItem i → SpeltItem j → (t s : List ℕ) → Ends Figure t → Ends Figure s → renderItem i ++ t ≡ renderItem j ++ s → (i ≡ j) × (t ≡ s)
-  item-same (number d) (number c) p q t s h g e = let a = runs-same Figure d c t s (p .1) (q .1) h g e in (ap number (a .0), a .1)
+  item-same : (i j : Item) → SpeltItem i → SpeltItem j → (t s : List ℕ) → Ends IsDigit t → Ends IsDigit s → renderItem i ++ t ≡ renderItem j ++ s → (i ≡ j) × (t ≡ s)
+  item-same (number d) (number c) p q t s h g e = let a = runs-same IsDigit d c t s (p .1) (q .1) h g e in (ap number (a .0), a .1)
   item-same (number d) (nested f) p q t s h g e = absurd (form-number f d s t p (sym e))
   item-same (nested f) (number d) p q t s h g e = absurd (form-number f d t s q e)
   item-same (nested f) (nested k) p q t s h g e = let a = form-same f k p q t s e in (ap nested (a .0), a .1)

@@ -9,11 +9,11 @@ use Rattle.std.proofs.shelf.Ways.{tells}
 use Rattle.std.specs.declared.option.Option.{Option}
 use Rattle.std.specs.declared.option.Option.the-variants.{Some, None}
 use Rattle.grammar.specs.Kinds.{kind}
-use Rattle.grammar.specs.Forms.{Letter, Figure}
+use Rattle.grammar.specs.Forms.{IsLetter, IsDigit}
 use Rattle.grammar.specs.States.{goes, after, from, run}
 use Rattle.grammar.specs.declared.kind.Kind.{Kind}
 use Rattle.grammar.specs.declared.kind.Kind.the-variants as kinds
-use Rattle.grammar.specs.States.{State, Start, Word, Item, Nought, Digits, Closed, Done}
+use Rattle.grammar.specs.States.{State, Start, Word, Item, Zero, Digits, Closed, Done}
 
 pub is-open : (c : ℕ) → kind c ≡ kinds.Open → c ≡ 40
 is-open c h = grind (arith, tells)
@@ -24,28 +24,28 @@ is-close c h = grind (arith, tells)
 pub is-space : (c : ℕ) → kind c ≡ kinds.Space → c ≡ 32
 is-space c h = grind (arith, tells)
 
-pub is-feed : (c : ℕ) → kind c ≡ kinds.Feed → c ≡ 10
+pub is-feed : (c : ℕ) → kind c ≡ kinds.LineFeed → c ≡ 10
 is-feed c h = grind (arith, tells)
 
-pub is-letter : (c : ℕ) → kind c ≡ kinds.Letter → Letter c
+pub is-letter : (c : ℕ) → kind c ≡ kinds.Letter → IsLetter c
 is-letter c h = (grind (arith, tells), grind (arith, tells))
 
-pub is-nought : (c : ℕ) → kind c ≡ kinds.Nought → c ≡ 48
-is-nought c h = grind (arith, tells)
+pub is-zero : (c : ℕ) → kind c ≡ kinds.Zero → c ≡ 48
+is-zero c h = grind (arith, tells)
 
 pub is-digit : (c : ℕ) → kind c ≡ kinds.Digit → (49 ≤ c) × (c ≤ 57)
 is-digit c h = (grind (arith, tells), grind (arith, tells))
 
-pub letter-kind : (c : ℕ) → Letter c → kind c ≡ kinds.Letter
+pub letter-kind : (c : ℕ) → IsLetter c → kind c ≡ kinds.Letter
 letter-kind c (a, b) = grind (arith, tells)
 
 pub digit-kind : (c : ℕ) → 49 ≤ c → c ≤ 57 → kind c ≡ kinds.Digit
 digit-kind c a b = grind (arith, tells)
 
-pub figure-kind : (c : ℕ) → Figure c → (kind c ≡ kinds.Nought) ⊎ (kind c ≡ kinds.Digit)
+pub figure-kind : (c : ℕ) → IsDigit c → (kind c ≡ kinds.Zero) ⊎ (kind c ≡ kinds.Digit)
 figure-kind c (a, b) = cases (eqb c 48) refl
   where
-    cases : (t : Bool) → eqb c 48 ≡ t → (kind c ≡ kinds.Nought) ⊎ (kind c ≡ kinds.Digit)
+    cases : (t : Bool) → eqb c 48 ≡ t → (kind c ≡ kinds.Zero) ⊎ (kind c ≡ kinds.Digit)
     cases true e = inl (grind (arith, tells))
     cases false e = inr (grind (arith, tells))
 
@@ -57,17 +57,6 @@ pub none-some : {X : Type 0} {x : X} → None ≡ Some x → ⊥
 none-some e = let z : _≡_ {A = ℕ} 0 1 = cc in omega arith
 
 -- tests
-pub cond-yes : {X : Type 0} (t : Bool) (x y : X) → t ≡ true → cond t x y ≡ x
-cond-yes t x y e = ap (λ v. cond v x y) e
-
-pub cond-no : {X : Type 0} (t : Bool) (x y : X) → t ≡ false → cond t x y ≡ y
-cond-no t x y e = ap (λ v. cond v x y) e
-
-pub lt-yes : (m n : ℕ) → m < n → ltb m n ≡ true
-lt-yes m n h = grind (arith, tells)
-
-pub lt-no : (m n : ℕ) → n ≤ m → ltb m n ≡ false
-lt-no m n h = grind (arith, tells)
 
 pub zero-no : (n : ℕ) → 0 < n → eqb n 0 ≡ false
 zero-no n h = grind (arith, tells)

@@ -12,14 +12,14 @@ use Rattle.std.specs.shelf.Lists.{All}
 use Rattle.std.specs.declared.option.Option.{Option}
 use Rattle.std.specs.declared.option.Option.the-variants.{Some, None}
 use Rattle.grammar.specs.Kinds.{kind}
-use Rattle.grammar.specs.Forms.{Form, Figure, line, Lawful}
+use Rattle.grammar.specs.Forms.{Form, IsDigit, line, Lawful}
 use Rattle.grammar.specs.Faults.{Begins, Whole, Halts, Eighth, Fifth, count, Forbidden, TooLong, TooDeep, AtOffset, Faulty}
 use Rattle.grammar.specs.States.{goes, after, from, run, faultOf}
 use Rattle.grammar.specs.declared.kind.Kind.{Kind}
 use Rattle.grammar.specs.declared.kind.Kind.the-variants as kinds
 use Rattle.grammar.specs.Faults.{Fault, forbidden, tooLong, tooDeep}
-use Rattle.grammar.specs.States.{State, Start, Word, Item, Nought, Digits, Closed, Done}
-use Rattle.grammar.proofs.Steps.{is-open, is-close, is-nought, is-digit, figure-kind, some-is, none-some, taken, not-zero, only-zero, left-out}
+use Rattle.grammar.specs.States.{State, Start, Word, Item, Zero, Digits, Closed, Done}
+use Rattle.grammar.proofs.Steps.{is-open, is-close, is-zero, is-digit, figure-kind, some-is, none-some, taken, not-zero, only-zero, left-out}
 use Rattle.grammar.proofs.Runs.{from-append, front-runs, run-digits, run-line}
 use Rattle.grammar.proofs.Reach.{Reach, reached, reach-begins, not-deeper, Within, Counting}
 
@@ -29,7 +29,7 @@ abbrev deepOf : State → ℕ
 deepOf Start = 0
 deepOf (Word d n) = d
 deepOf (Item d) = d
-deepOf (Nought d) = d
+deepOf (Zero d) = d
 deepOf (Digits d n) = d
 deepOf (Closed d) = d
 deepOf Done = 0
@@ -38,21 +38,21 @@ abbrev ups : Kind → ℕ
 ups kinds.Open = 1
 ups kinds.Close = 0
 ups kinds.Space = 0
-ups kinds.Feed = 0
+ups kinds.LineFeed = 0
 ups kinds.Letter = 0
-ups kinds.Nought = 0
+ups kinds.Zero = 0
 ups kinds.Digit = 0
-ups kinds.Strange = 0
+ups kinds.Other = 0
 
 abbrev downs : Kind → ℕ
 downs kinds.Open = 0
 downs kinds.Close = 1
 downs kinds.Space = 0
-downs kinds.Feed = 0
+downs kinds.LineFeed = 0
 downs kinds.Letter = 0
-downs kinds.Nought = 0
+downs kinds.Zero = 0
 downs kinds.Digit = 0
-downs kinds.Strange = 0
+downs kinds.Other = 0
 
 deep-is : (s t : State) → s ≡ t → deepOf s ≡ deepOf t
 deep-is s t e = ap deepOf e
@@ -61,46 +61,46 @@ after-deep : (d : ℕ) (t : State) (k : Kind) → after d k ≡ Some t → d + u
 after-deep d t kinds.Open e = absurd (none-some e)
 after-deep d t kinds.Close e = let q = not-zero d (Some (Closed (d - 1))) e in omega (arith, q .0, deep-is (Closed (d - 1)) t (some-is (q .1)))
 after-deep d t kinds.Space e = let q = not-zero d (Some (Item d)) e in omega (arith, deep-is (Item d) t (some-is (q .1)))
-after-deep d t kinds.Feed e = let q = only-zero d e in omega (arith, q .0, deep-is Done t (q .1))
+after-deep d t kinds.LineFeed e = let q = only-zero d e in omega (arith, q .0, deep-is Done t (q .1))
 after-deep d t kinds.Letter e = absurd (none-some e)
-after-deep d t kinds.Nought e = absurd (none-some e)
+after-deep d t kinds.Zero e = absurd (none-some e)
 after-deep d t kinds.Digit e = absurd (none-some e)
-after-deep d t kinds.Strange e = absurd (none-some e)
+after-deep d t kinds.Other e = absurd (none-some e)
 
 step-deep : (s t : State) (k : Kind) → goes s k ≡ Some t → deepOf s + ups k ≡ deepOf t + downs k
 step-deep Start t kinds.Open e = omega (arith, deep-is (Word 1 0) t (some-is e))
 step-deep Start t kinds.Close e = absurd (none-some e)
 step-deep Start t kinds.Space e = absurd (none-some e)
-step-deep Start t kinds.Feed e = absurd (none-some e)
+step-deep Start t kinds.LineFeed e = absurd (none-some e)
 step-deep Start t kinds.Letter e = absurd (none-some e)
-step-deep Start t kinds.Nought e = absurd (none-some e)
+step-deep Start t kinds.Zero e = absurd (none-some e)
 step-deep Start t kinds.Digit e = absurd (none-some e)
-step-deep Start t kinds.Strange e = absurd (none-some e)
+step-deep Start t kinds.Other e = absurd (none-some e)
 step-deep (Word d n) t kinds.Open e = absurd (none-some e)
 step-deep (Word d n) t kinds.Close e = after-deep d t kinds.Close (not-zero n (after d kinds.Close) e .1)
 step-deep (Word d n) t kinds.Space e = after-deep d t kinds.Space (not-zero n (after d kinds.Space) e .1)
-step-deep (Word d n) t kinds.Feed e = after-deep d t kinds.Feed (not-zero n (after d kinds.Feed) e .1)
+step-deep (Word d n) t kinds.LineFeed e = after-deep d t kinds.LineFeed (not-zero n (after d kinds.LineFeed) e .1)
 step-deep (Word d n) t kinds.Letter e = omega (arith, deep-is (Word d (n + 1)) t (taken n 8 e .1))
-step-deep (Word d n) t kinds.Nought e = absurd (none-some e)
+step-deep (Word d n) t kinds.Zero e = absurd (none-some e)
 step-deep (Word d n) t kinds.Digit e = absurd (none-some e)
-step-deep (Word d n) t kinds.Strange e = absurd (none-some e)
+step-deep (Word d n) t kinds.Other e = absurd (none-some e)
 step-deep (Item d) t kinds.Open e = omega (arith, deep-is (Word (d + 1) 0) t (taken d 4 e .1))
 step-deep (Item d) t kinds.Close e = absurd (none-some e)
 step-deep (Item d) t kinds.Space e = absurd (none-some e)
-step-deep (Item d) t kinds.Feed e = absurd (none-some e)
+step-deep (Item d) t kinds.LineFeed e = absurd (none-some e)
 step-deep (Item d) t kinds.Letter e = absurd (none-some e)
-step-deep (Item d) t kinds.Nought e = omega (arith, deep-is (Nought d) t (some-is e))
+step-deep (Item d) t kinds.Zero e = omega (arith, deep-is (Zero d) t (some-is e))
 step-deep (Item d) t kinds.Digit e = omega (arith, deep-is (Digits d 1) t (some-is e))
-step-deep (Item d) t kinds.Strange e = absurd (none-some e)
-step-deep (Nought d) t k e = after-deep d t k e
+step-deep (Item d) t kinds.Other e = absurd (none-some e)
+step-deep (Zero d) t k e = after-deep d t k e
 step-deep (Digits d n) t kinds.Open e = absurd (none-some e)
 step-deep (Digits d n) t kinds.Close e = after-deep d t kinds.Close e
 step-deep (Digits d n) t kinds.Space e = after-deep d t kinds.Space e
-step-deep (Digits d n) t kinds.Feed e = after-deep d t kinds.Feed e
+step-deep (Digits d n) t kinds.LineFeed e = after-deep d t kinds.LineFeed e
 step-deep (Digits d n) t kinds.Letter e = absurd (none-some e)
-step-deep (Digits d n) t kinds.Nought e = omega (arith, deep-is (Digits d (n + 1)) t (taken n 7 e .1))
+step-deep (Digits d n) t kinds.Zero e = omega (arith, deep-is (Digits d (n + 1)) t (taken n 7 e .1))
 step-deep (Digits d n) t kinds.Digit e = omega (arith, deep-is (Digits d (n + 1)) t (taken n 7 e .1))
-step-deep (Digits d n) t kinds.Strange e = absurd (none-some e)
+step-deep (Digits d n) t kinds.Other e = absurd (none-some e)
 step-deep (Closed d) t k e = after-deep d t k e
 step-deep Done t k e = absurd (none-some e)
 
@@ -111,11 +111,11 @@ ups-count c = cases (kind c) refl
     cases kinds.Open h = grind (arith, tells)
     cases kinds.Close h = grind (arith, tells)
     cases kinds.Space h = grind (arith, tells)
-    cases kinds.Feed h = grind (arith, tells)
+    cases kinds.LineFeed h = grind (arith, tells)
     cases kinds.Letter h = grind (arith, tells)
-    cases kinds.Nought h = grind (arith, tells)
+    cases kinds.Zero h = grind (arith, tells)
     cases kinds.Digit h = grind (arith, tells)
-    cases kinds.Strange h = grind (arith, tells)
+    cases kinds.Other h = grind (arith, tells)
 
 downs-count : (c : ℕ) → downs (kind c) ≡ cond (eqb c 41) 1 0
 downs-count c = cases (kind c) refl
@@ -124,11 +124,11 @@ downs-count c = cases (kind c) refl
     cases kinds.Open h = grind (arith, tells)
     cases kinds.Close h = grind (arith, tells)
     cases kinds.Space h = grind (arith, tells)
-    cases kinds.Feed h = grind (arith, tells)
+    cases kinds.LineFeed h = grind (arith, tells)
     cases kinds.Letter h = grind (arith, tells)
-    cases kinds.Nought h = grind (arith, tells)
+    cases kinds.Zero h = grind (arith, tells)
     cases kinds.Digit h = grind (arith, tells)
-    cases kinds.Strange h = grind (arith, tells)
+    cases kinds.Other h = grind (arith, tells)
 
 run-deep : (cs : List ℕ) (s t : State) → run s cs ≡ Some t → deepOf s + count 40 cs ≡ deepOf t + count 41 cs
 run-deep [] s t e = omega (arith, deep-is s t (some-is e))
@@ -147,7 +147,7 @@ step-space : (s t : State) → goes s kinds.Space ≡ Some t → (e : ℕ) × (t
 step-space Start t e = absurd (none-some e)
 step-space (Word d n) t e = after-space d t (not-zero n (after d kinds.Space) e .1)
 step-space (Item d) t e = absurd (none-some e)
-step-space (Nought d) t e = after-space d t e
+step-space (Zero d) t e = after-space d t e
 step-space (Digits d n) t e = after-space d t e
 step-space (Closed d) t e = after-space d t e
 step-space Done t e = absurd (none-some e)
@@ -164,16 +164,16 @@ spaced u t e = let q = front-runs Start t u (32 ∷ []) e in step-space (q .0) t
 
 -- seven digits after a space
 
-seven : (ds : List ℕ) (d : ℕ) (t : State) → length ds ≡ 7 → All Figure ds → run (Item d) ds ≡ Some t → t ≡ Digits d 7
+seven : (ds : List ℕ) (d : ℕ) (t : State) → length ds ≡ 7 → All IsDigit ds → run (Item d) ds ≡ Some t → t ≡ Digits d 7
 seven [] d t n a e = absurd (omega arith)
 seven (c ∷ []) d t n a e = absurd (omega arith)
 seven (c ∷ b ∷ cs) d t n a e = first (figure-kind c (a .0))
   where
-    second : (kind b ≡ kinds.Nought) ⊎ (kind b ≡ kinds.Digit) → run (Nought d) (b ∷ cs) ≡ Some t → ⊥
-    second (inl h) q = none-some (sym (ap (λ k. from (goes (Nought d) k) cs) h) ∙ q)
-    second (inr h) q = none-some (sym (ap (λ k. from (goes (Nought d) k) cs) h) ∙ q)
+    second : (kind b ≡ kinds.Zero) ⊎ (kind b ≡ kinds.Digit) → run (Zero d) (b ∷ cs) ≡ Some t → ⊥
+    second (inl h) q = none-some (sym (ap (λ k. from (goes (Zero d) k) cs) h) ∙ q)
+    second (inr h) q = none-some (sym (ap (λ k. from (goes (Zero d) k) cs) h) ∙ q)
 
-    first : (kind c ≡ kinds.Nought) ⊎ (kind c ≡ kinds.Digit) → t ≡ Digits d 7
+    first : (kind c ≡ kinds.Zero) ⊎ (kind c ≡ kinds.Digit) → t ≡ Digits d 7
     first (inl h) = absurd (second (figure-kind b (a .1 .0)) (sym (ap (λ k. from (goes (Item d) k) (b ∷ cs)) h) ∙ e))
     first (inr h) =
         let rest : run (Digits d 1) (b ∷ cs) ≡ Some t = sym (ap (λ k. from (goes (Item d) k) (b ∷ cs)) h) ∙ e in
@@ -229,7 +229,7 @@ refuse-byte s p c q start e halts is =
     at : ℕ
     at = start + length p
 
-    long-case : (d : ℕ) → s ≡ Digits d 7 → (kind c ≡ kinds.Nought) ⊎ (kind c ≡ kinds.Digit) → ⊥
+    long-case : (d : ℕ) → s ≡ Digits d 7 → (kind c ≡ kinds.Zero) ⊎ (kind c ≡ kinds.Digit) → ⊥
     long-case d h (inl k) = byte-long (start + length p) (start + length p - 7) (is ∙ ap (λ t. faultOf t (kind c) (start + length p)) h ∙ ap (λ t. faultOf (Digits d 7) t (start + length p)) k)
     long-case d h (inr k) = byte-long (start + length p) (start + length p - 7) (is ∙ ap (λ t. faultOf t (kind c) (start + length p)) h ∙ ap (λ t. faultOf (Digits d 7) t (start + length p)) k)
 
@@ -263,7 +263,7 @@ refuse-deep d p c q start e k h halts =
       };
     }
 
-refuse-long : (d n : ℕ) (p : List ℕ) (c : ℕ) (q : List ℕ) (start : ℕ) → run Start p ≡ Some (Digits d n) → Figure c → 7 ≤ n → Halts (p ++ c ∷ q) p (c ∷ q) → Faulty start (p ++ c ∷ q) (tooLong (start + length p - n))
+refuse-long : (d n : ℕ) (p : List ℕ) (c : ℕ) (q : List ℕ) (start : ℕ) → run Start p ≡ Some (Digits d n) → IsDigit c → 7 ≤ n → Halts (p ++ c ∷ q) p (c ∷ q) → Faulty start (p ++ c ∷ q) (tooLong (start + length p - n))
 refuse-long d n p c q start e k h halts =
     let r : Counting d n p = reached p (Digits d n) e in
     let cut : p ≡ (r .before ++ 32 ∷ []) ++ (r .first ∷ r .others) = r .is ∙ sym (append-assoc (r .before) (32 ∷ []) (r .first ∷ r .others)) in
@@ -298,12 +298,12 @@ refuse (Item d) p c q start e n h = cases (kind c) refl h
     cases kinds.Open is g = refuse-deep d p c q start e is g halts
     cases kinds.Close is g = byte kinds.Close is refl
     cases kinds.Space is g = byte kinds.Space is refl
-    cases kinds.Feed is g = byte kinds.Feed is refl
+    cases kinds.LineFeed is g = byte kinds.LineFeed is refl
     cases kinds.Letter is g = byte kinds.Letter is refl
-    cases kinds.Nought is g = byte kinds.Nought is refl
+    cases kinds.Zero is g = byte kinds.Zero is refl
     cases kinds.Digit is g = byte kinds.Digit is refl
-    cases kinds.Strange is g = byte kinds.Strange is refl
-refuse (Nought d) p c q start e n h = refuse-byte (Nought d) p c q start e (halts-at (Nought d) p c q e n h) refl
+    cases kinds.Other is g = byte kinds.Other is refl
+refuse (Zero d) p c q start e n h = refuse-byte (Zero d) p c q start e (halts-at (Zero d) p c q e n h) refl
 refuse (Digits d m) p c q start e n h = cases (kind c) refl h
   where
     halts : Halts (p ++ c ∷ q) p (c ∷ q)
@@ -312,20 +312,20 @@ refuse (Digits d m) p c q start e n h = cases (kind c) refl h
     byte : (k : Kind) → kind c ≡ k → forbidden (start + length p) ≡ faultOf (Digits d m) k (start + length p) → Faulty start (p ++ c ∷ q) (forbidden (start + length p))
     byte k is b = refuse-byte (Digits d m) p c q start e halts (b ∙ ap (λ t. faultOf (Digits d m) t (start + length p)) (sym is))
 
-    nought : kind c ≡ kinds.Nought → Figure c
-    nought is = let k = is-nought c is in (omega arith, omega arith)
+    nought : kind c ≡ kinds.Zero → IsDigit c
+    nought is = let k = is-zero c is in (omega arith, omega arith)
 
-    digit : kind c ≡ kinds.Digit → Figure c
+    digit : kind c ≡ kinds.Digit → IsDigit c
     digit is = let k = is-digit c is in (omega (arith, k .0), k .1)
 
     cases : (k : Kind) → kind c ≡ k → goes (Digits d m) k ≡ None → Faulty start (p ++ c ∷ q) (faultOf (Digits d m) k (start + length p))
     cases kinds.Open is g = byte kinds.Open is refl
     cases kinds.Close is g = byte kinds.Close is refl
     cases kinds.Space is g = byte kinds.Space is refl
-    cases kinds.Feed is g = byte kinds.Feed is refl
+    cases kinds.LineFeed is g = byte kinds.LineFeed is refl
     cases kinds.Letter is g = byte kinds.Letter is refl
-    cases kinds.Nought is g = refuse-long d m p c q start e (nought is) (left-out m 7 (Digits d (m + 1)) g) halts
+    cases kinds.Zero is g = refuse-long d m p c q start e (nought is) (left-out m 7 (Digits d (m + 1)) g) halts
     cases kinds.Digit is g = refuse-long d m p c q start e (digit is) (left-out m 7 (Digits d (m + 1)) g) halts
-    cases kinds.Strange is g = byte kinds.Strange is refl
+    cases kinds.Other is g = byte kinds.Other is refl
 refuse (Closed d) p c q start e n h = refuse-byte (Closed d) p c q start e (halts-at (Closed d) p c q e n h) refl
 refuse Done p c q start e n h = absurd (n refl)

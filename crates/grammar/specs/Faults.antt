@@ -6,7 +6,7 @@ use Prim.Native.Nat.{ℕ, _+_}
 use lib.Dec.{eqb}
 use lib.ListN.{length}
 use Rattle.std.specs.shelf.Lists.{All}
-use Rattle.grammar.specs.Forms.{Form, Lawful, line, Figure}
+use Rattle.grammar.specs.Forms.{Form, Lawful, line, IsDigit}
 
 -- what a line can be refused for by the grammar, and the offset at which it is
 pub data Fault : Type 0 where
@@ -55,8 +55,8 @@ pub record Halts (bs p q : List ℕ) : Type 0 where
 pub record Eighth (p q u ds : List ℕ) : Type 0 where
   pub cut : p ≡ (u ++ 32 ∷ []) ++ ds
   pub seven : length ds ≡ 7
-  pub digits : All Figure ds
-  pub next : First Figure q
+  pub digits : All IsDigit ds
+  pub next : First IsDigit q
 
 abbrev pub count : ℕ → List ℕ → ℕ
 count b [] = 0

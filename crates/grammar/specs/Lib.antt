@@ -1,4 +1,5 @@
 pub mod Kinds
 pub mod Forms
 pub mod Faults
+pub mod Outcomes
 pub mod States

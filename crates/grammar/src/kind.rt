@@ -6,11 +6,11 @@ pub enum Kind {
     Open,
     Close,
     Space,
-    Feed,
+    LineFeed,
     Letter,
     // the digit 0, which begins no longer number
-    Nought,
+    Zero,
     // a digit from 1 to 9
     Digit,
-    Strange,
+    Other,
 }

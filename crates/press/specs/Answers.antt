@@ -11,11 +11,11 @@ use Rattle.writer.specs.Lines.{refusalLine, tableLine}
 use Rattle.writer.specs.Texts.{Writes}
 
 -- the line tells the table that the sheet describes, or why the sheet is refused
-abbrev pub Tells : List ℕ → List ℕ → Type 0
-Tells bs line = ((table : Table) × Granted bs table [] × (line ≡ tableLine table)) ⊎ ((y : Refusal) × SheetRefused bs y × (line ≡ refusalLine y))
+abbrev pub LineFor : List ℕ → List ℕ → Type 0
+LineFor bs line = ((table : Table) × Granted bs table [] × (line ≡ tableLine table)) ⊎ ((y : Refusal) × SheetRefused bs y × (line ≡ refusalLine y))
 
 -- the line that tells of the sheet is written, unless the buffer is too short for it
 pub record Answers (bs out : List ℕ) (r : Result ℕ Refusal) (after : List ℕ) : Type 0 where
   pub line : List ℕ
-  pub tells : Tells bs line
+  pub tells : LineFor bs line
   pub writes : Writes line out r after

@@ -20,7 +20,7 @@ use Rattle.reader.specs.Lines.{RefusedLine, ReadLine, LineSteps}
 use Rattle.reader.specs.Progress.{Tells, Stuck, ReadForm}
 use Rattle.reader.specs.declared.reader.Line.{Line}
 use Rattle.reader.specs.declared.reader.Reader.{Reader}
-use Rattle.reader.specs.declared.reader.Spotted.{Spotted}
+use Rattle.reader.specs.declared.reader.TokenAt.{TokenAt}
 use Rattle.reader.specs.declared.reader.Token.the-variants as tokens
 use Rattle.reader.proofs.Stalled.{went-then, went-token, run-then}
 
@@ -45,15 +45,15 @@ stuck-refused bs start y k = cases (k .left) (k .split) (k .told)
         }
 
 -- a line's '(' is read
-pub open-runs : {a b : Reader} {t : Spotted} → Past a t b → t .token ≡ tokens.Open → Went a b (40 ∷ []) × (run Start (40 ∷ []) ≡ Some (Word 1 0))
+pub open-runs : {a b : Reader} {t : TokenAt} → Past a t b → t .token ≡ tokens.Open → Went a b (40 ∷ []) × (run Start (40 ∷ []) ≡ Some (Word 1 0))
 open-runs p is = (went-token p is, refl)
 
 -- a line's form is read
-pub form-runs : {a b e : Reader} {t : Spotted} → Past a t b → t .token ≡ tokens.Open → (f : ReadForm 1 b e) → Went a e (40 ∷ f .bs) × (run Start (40 ∷ f .bs) ≡ Some (Closed 0))
+pub form-runs : {a b e : Reader} {t : TokenAt} → Past a t b → t .token ≡ tokens.Open → (f : ReadForm 1 b e) → Went a e (40 ∷ f .bs) × (run Start (40 ∷ f .bs) ≡ Some (Closed 0))
 form-runs p is f = (went-then (went-token p is) (f .went), run-step Start (Word 1 0) 40 (f .bs) refl ∙ f .runs)
 
 -- a line is read, its line feed with it
-pub line-read : {a b e g : Reader} {t u : Spotted} (l : Line) → Past a t b → t .token ≡ tokens.Open → ReadForm 1 b e → Past e u g → u .token ≡ tokens.Feed → l .bytes .now ≡ take (g .position - a .position) (rest a) → l .at ≡ a .position → ReadLine a l g
+pub line-read : {a b e g : Reader} {t u : TokenAt} (l : Line) → Past a t b → t .token ≡ tokens.Open → ReadForm 1 b e → Past e u g → u .token ≡ tokens.LineFeed → l .bytes .now ≡ take (g .position - a .position) (rest a) → l .at ≡ a .position → ReadLine a l g
 line-read {a} {b} {e} {g} l po io f pf if bytes at =
     let r = form-runs po io f in
     let p : List ℕ = (40 ∷ f .bs) ++ 10 ∷ [] in

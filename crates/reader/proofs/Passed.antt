@@ -11,12 +11,12 @@ use Rattle.std.proofs.shelf.Lists.{drop-drop, length-take-le}
 use Rattle.std.proofs.shelf.Elements.{all-weaker}
 use Rattle.std.proofs.shelf.Ways.{tells}
 use Rattle.grammar.specs.Kinds.{kind}
-use Rattle.grammar.specs.Forms.{Letter, Figure}
+use Rattle.grammar.specs.Forms.{IsLetter, IsDigit, Run, Ends}
 use Rattle.grammar.specs.declared.kind.Kind.{Kind}
 use Rattle.grammar.specs.declared.kind.Kind.the-variants as kinds
-use Rattle.reader.specs.Tokens.{rest, class, spells, Run, Ends, Maximal, Past, Strangely}
+use Rattle.reader.specs.Tokens.{rest, class, spells, Maximal, Past, NoToken}
 use Rattle.reader.specs.declared.reader.Reader.{Reader}
-use Rattle.reader.specs.declared.reader.Spotted.{Spotted}
+use Rattle.reader.specs.declared.reader.TokenAt.{TokenAt}
 use Rattle.reader.specs.declared.reader.Token.{Token}
 
 pub end-test : (s : List ℕ) (n : ℕ) → n ≤ length s → eqb n (length s) ≡ eqb (length (drop n s)) 0
@@ -24,7 +24,7 @@ end-test s n h = let long = length-drop n s in grind (arith, tells)
 
 -- the token is the front of what is left, and the reader moves over it
 pass :
-    (a b : Reader) (t : Spotted) (n : ℕ) → b .sheet ≡ a .sheet → t .at ≡ a .position → b .position ≡ a .position + n → n ≤ length (rest a) → spells (t .token) ≡ take n (rest a) → Maximal (t .token) (drop n (rest a)) → Past a t b
+    (a b : Reader) (t : TokenAt) (n : ℕ) → b .sheet ≡ a .sheet → t .at ≡ a .position → b .position ≡ a .position + n → n ≤ length (rest a) → spells (t .token) ≡ take n (rest a) → Maximal (t .token) (drop n (rest a)) → Past a t b
 pass a b t n same at to fits is maximal =
     let left : rest b ≡ drop n (rest a) = ap (λ s. drop (b .position) (s .now)) same ∙ ap (λ k. drop k (a .sheet .now)) to ∙ sym (drop-drop n (a .position) (a .sheet .now)) in
     let long : length (spells (t .token)) ≡ n = ap length is ∙ length-take-le n (rest a) fits in
@@ -40,7 +40,7 @@ pass a b t n same at to fits is maximal =
 
 -- as the code of `next` has it: the token is the first m bytes of the tail, and the position goes up by its width
 pub by-front :
-    (a b : Reader) (t : Spotted) (tok : Token) (tail : List ℕ) (m n : ℕ) → tail ≡ rest a → b .sheet ≡ a .sheet → t .at ≡ a .position → b .position ≡ a .position + n → n ≡ length (spells (t .token)) → t .token ≡ tok → spells tok ≡ take m tail → m ≤ length tail → Maximal tok (drop m tail) → Past a t b
+    (a b : Reader) (t : TokenAt) (tok : Token) (tail : List ℕ) (m n : ℕ) → tail ≡ rest a → b .sheet ≡ a .sheet → t .at ≡ a .position → b .position ≡ a .position + n → n ≡ length (spells (t .token)) → t .token ≡ tok → spells tok ≡ take m tail → m ≤ length tail → Maximal tok (drop m tail) → Past a t b
 by-front a b t tok tail m n here same at to width is front fits maximal =
     let long : n ≡ m = width ∙ ap (λ k. length (spells k)) is ∙ ap length front ∙ length-take-le m tail fits in
     pass a b t m same at (to ∙ ap (λ k. a .position + k) long) (subst (λ l. m ≤ length l) here fits) (ap spells is ∙ front ∙ ap (take m) here) (subst (λ k. Maximal k (drop m (rest a))) (sym is) (subst (λ l. Maximal tok (drop m l)) here maximal))
@@ -52,22 +52,22 @@ front-one (x ∷ xs) b some is = ap (λ y. y ∷ []) (sym is)
 
 -- classes
 
-pub class-letter : (c : ℕ) → class c ≡ kinds.Letter → Letter c
+pub class-letter : (c : ℕ) → class c ≡ kinds.Letter → IsLetter c
 class-letter c h = (grind (arith, tells), grind (arith, tells))
 
-pub letter-class : (c : ℕ) → Letter c → class c ≡ kinds.Letter
+pub letter-class : (c : ℕ) → IsLetter c → class c ≡ kinds.Letter
 letter-class c (a, b) = grind (arith, tells)
 
-pub class-figure : (c : ℕ) → class c ≡ kinds.Digit → Figure c
+pub class-figure : (c : ℕ) → class c ≡ kinds.Digit → IsDigit c
 class-figure c h = (grind (arith, tells), grind (arith, tells))
 
-pub figure-class : (c : ℕ) → Figure c → class c ≡ kinds.Digit
+pub figure-class : (c : ℕ) → IsDigit c → class c ≡ kinds.Digit
 figure-class c (a, b) = grind (arith, tells)
 
 pub kind-letter : (c : ℕ) → kinds.Letter ≡ kind c → class c ≡ kinds.Letter
 kind-letter c h = grind (arith, tells)
 
-pub kind-figure : (c : ℕ) (k : Kind) → k ≡ kind c → (k ≡ kinds.Nought) ⊎ (k ≡ kinds.Digit) → class c ≡ kinds.Digit
+pub kind-figure : (c : ℕ) (k : Kind) → k ≡ kind c → (k ≡ kinds.Zero) ⊎ (k ≡ kinds.Digit) → class c ≡ kinds.Digit
 kind-figure c k is (inl h) = grind (arith, tells)
 kind-figure c k is (inr h) = grind (arith, tells)
 
@@ -89,10 +89,10 @@ counted P k to from tail m some is within all stops =
     let more = run-some k tail m some is stops in
     ((omega arith, all-weaker (λ c. class c ≡ k) P to (take m tail) all), ends-weaker (λ c. class c ≡ k) P from (drop m tail) stops)
 
-pub strange-head : (xs : List ℕ) → 0 < length xs → kinds.Strange ≡ kind (getD xs 0 0) → Strangely xs
-strange-head [] some is = absurd (omega arith)
-strange-head (x ∷ xs) some is = sym is
+pub other-head : (xs : List ℕ) → 0 < length xs → kinds.Other ≡ kind (getD xs 0 0) → NoToken xs
+other-head [] some is = absurd (omega arith)
+other-head (x ∷ xs) some is = sym is
 
-pub strange-none : (xs : List ℕ) → length xs ≡ 0 → Strangely xs
-strange-none [] e = tt
-strange-none (x ∷ xs) e = absurd (omega arith)
+pub other-none : (xs : List ℕ) → length xs ≡ 0 → NoToken xs
+other-none [] e = tt
+other-none (x ∷ xs) e = absurd (omega arith)

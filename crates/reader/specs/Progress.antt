@@ -53,15 +53,15 @@ abbrev pub Forbids : State → Kind → Type 0
 Forbids s k = (goes s k ≡ None) × ((at : ℕ) → faultOf s k at ≡ forbidden at)
 
 -- the first of the bytes is a space, a ')' or forbidden
-abbrev pub Balks : State → List ℕ → Type 0
-Balks s [] = Unit {0}
-Balks s (c ∷ q) = (kind c ≡ kinds.Space → ⊥) → (kind c ≡ kinds.Close → ⊥) → Forbids s (kind c)
+abbrev pub OthersForbidden : State → List ℕ → Type 0
+OthersForbidden s [] = Unit {0}
+OthersForbidden s (c ∷ q) = (kind c ≡ kinds.Space → ⊥) → (kind c ≡ kinds.Close → ⊥) → Forbids s (kind c)
 
 -- in the innermost of d open forms a word or an item has ended, and the bytes stand next
 pub record Settled (s : State) (d : ℕ) (after : List ℕ) : Type 0 where
   pub space : goes s kinds.Space ≡ Some (Item d)
   pub close : goes s kinds.Close ≡ Some (Closed (d - 1))
-  pub others : Balks s after
+  pub others : OthersForbidden s after
 
 -- from its word on, a form that is one of d open ones was read to its end
 pub record ReadForm (d : ℕ) (a b : Reader) : Type 0 where

@@ -9,15 +9,15 @@ use Rattle.std.specs.declared.result.Result.{Result}
 use Rattle.std.specs.declared.result.Result.the-variants.{Ok, Err}
 use Rattle.std.specs.shelf.Lists.{All}
 use Rattle.grammar.specs.Kinds.{kind}
-use Rattle.grammar.specs.Forms.{Letter, Figure}
+use Rattle.grammar.specs.Forms.{Run, Ends, IsLetter, IsDigit}
 use Rattle.grammar.specs.declared.kind.Kind.{Kind}
 use Rattle.grammar.specs.declared.kind.Kind.the-variants as kinds
 use Rattle.tasks.specs.declared.refusal.Refusal.{Refusal}
 use Rattle.tasks.specs.declared.refusal.Refusal.the-variants.{ForbiddenByte}
 use Rattle.reader.specs.declared.reader.Reader.{Reader}
-use Rattle.reader.specs.declared.reader.Spotted.{Spotted}
+use Rattle.reader.specs.declared.reader.TokenAt.{TokenAt}
 use Rattle.reader.specs.declared.reader.Token.{Token}
-use Rattle.reader.specs.declared.reader.Token.the-variants.{Open, Close, Space, Feed, Word, Number}
+use Rattle.reader.specs.declared.reader.Token.the-variants.{Open, Close, Space, LineFeed, Word, Number}
 
 -- the bytes from the position on
 abbrev pub rest : Reader → List ℕ
@@ -32,27 +32,18 @@ abbrev pub spells : Token → List ℕ
 spells Open = 40 ∷ []
 spells Close = 41 ∷ []
 spells Space = 32 ∷ []
-spells Feed = 10 ∷ []
+spells LineFeed = 10 ∷ []
 spells (Word w) = w .now
 spells (Number n) = n .now
-
--- some bytes, each of them P
-abbrev pub Run : (ℕ → Type 0) → List ℕ → Type 0
-Run P cs = (0 < length cs) × All P cs
-
--- no P stands first
-abbrev pub Ends : (ℕ → Type 0) → List ℕ → Type 0
-Ends P [] = Unit {0}
-Ends P (c ∷ cs) = P c → ⊥
 
 -- a word is all the letters and a number all the digits that stand here
 abbrev pub Maximal : Token → List ℕ → Type 0
 Maximal Open after = Unit {0}
 Maximal Close after = Unit {0}
 Maximal Space after = Unit {0}
-Maximal Feed after = Unit {0}
-Maximal (Word w) after = Run Letter (w .now) × Ends Letter after
-Maximal (Number n) after = Run Figure (n .now) × Ends Figure after
+Maximal LineFeed after = Unit {0}
+Maximal (Word w) after = Run IsLetter (w .now) × Ends IsLetter after
+Maximal (Number n) after = Run IsDigit (n .now) × Ends IsDigit after
 
 -- the reader b is a, on the same sheet, after the bytes bs
 pub record Went (a b : Reader) (bs : List ℕ) : Type 0 where
@@ -61,17 +52,17 @@ pub record Went (a b : Reader) (bs : List ℕ) : Type 0 where
   pub bytes : rest a ≡ bs ++ rest b
 
 -- the reader b is a after the token t
-pub record Past (a : Reader) (t : Spotted) (b : Reader) : Type 0 where
+pub record Past (a : Reader) (t : TokenAt) (b : Reader) : Type 0 where
   pub went : Went a b (spells (t .token))
   pub at : t .at ≡ a .position
   pub maximal : Maximal (t .token) (rest b)
 
 -- nothing is left, or a byte that begins no token
-abbrev pub Strangely : List ℕ → Type 0
-Strangely [] = Unit {0}
-Strangely (c ∷ cs) = kind c ≡ kinds.Strange
+abbrev pub NoToken : List ℕ → Type 0
+NoToken [] = Unit {0}
+NoToken (c ∷ cs) = kind c ≡ kinds.Other
 
 -- the next token is read, or none begins here and the reader stays
-abbrev pub TokenSteps : Reader → Result Spotted Refusal → Reader → Type 0
+abbrev pub TokenSteps : Reader → Result TokenAt Refusal → Reader → Type 0
 TokenSteps a (Ok t) b = Past a t b
-TokenSteps a (Err y) b = (b ≡ a) × (y ≡ ForbiddenByte (a .position)) × Strangely (rest a)
+TokenSteps a (Err y) b = (b ≡ a) × (y ≡ ForbiddenByte (a .position)) × NoToken (rest a)

@@ -3,5 +3,5 @@ pub mod reader;
 
 pub use reader::Line;
 pub use reader::Reader;
-pub use reader::Spotted;
 pub use reader::Token;
+pub use reader::TokenAt;

@@ -20,14 +20,14 @@ pub enum Token<'a> {
     Open,
     Close,
     Space,
-    Feed,
+    LineFeed,
     Word(&'a [u8]),
     Number(&'a [u8]),
 }
 
 // A token, and its offset in the sheet.
 #[derive(Clone, Copy)]
-pub struct Spotted<'a> {
+pub struct TokenAt<'a> {
     pub token: Token<'a>,
     pub at: usize,
 }

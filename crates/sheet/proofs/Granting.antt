@@ -17,9 +17,9 @@ use Rattle.reader.specs.Tokens.{rest, Went}
 use Rattle.tasks.specs.declared.refusal.Refusal.{Refusal}
 use Rattle.tasks.specs.declared.table.Draft.{Draft}
 use Rattle.tasks.specs.Tasks.{Table, withTask, emptyOn}
-use Rattle.tasks.specs.Tables.{drafted, beginRefusal, addRefusal}
+use Rattle.tasks.specs.Tables.{drafted, newDraftRefusal, addRefusal}
 use Rattle.sheet.specs.Lines.{taskFrom, FirstRefused, LaterRefused}
-use Rattle.sheet.specs.Sheets.{taskLines, sheetLines, AllAdded, Granted, placeOf, Broken, Reads}
+use Rattle.sheet.specs.Sheets.{taskLines, sheetLines, AllAdded, Granted, placeOf, RefusedAfter, Reads}
 use Rattle.sheet.specs.Steps.{CoresRead, TaskRead}
 use Rattle.sheet.proofs.Shortened.{granted-anywhere}
 
@@ -51,7 +51,7 @@ reached-first bs a b e is start c =
       granted = record {
         digits = c .digits;
         number = c .number;
-        cores = subst (λ n. beginRefusal n (value (c .digits)) ≡ None) start (c .granted);
+        cores = subst (λ n. newDraftRefusal n (value (c .digits)) ≡ None) start (c .granted);
         written = [];
         lawful = tt;
         added = c .holds;
@@ -98,5 +98,5 @@ reads-first bs a d e y is start h = inl (h .0, subst (λ l. FirstRefused 0 l y) 
 pub reads-broken : (bs : List ℕ) (a : Reader) (d was e : Draft) (y : Refusal) → Reached bs a (drafted was) → 0 < length (rest a) → (e ≡ was) × LaterRefused (drafted was) (a .position) (rest a) y → Reads bs d (Err y) e
 reads-broken bs a d was e y r some h =
     inr
-    (subst (λ t. Broken bs (drafted t) y) (sym (h .0))
+    (subst (λ t. RefusedAfter bs (drafted t) y) (sym (h .0))
     (record { left = rest a; some = some; granted = r .granted; refused = subst (λ n. LaterRefused (drafted was) n (rest a) y) (r .here) (h .1) }))

@@ -1,3 +1,4 @@
 mod Shortened
 mod Stepping
 mod Granting
+pub mod Once

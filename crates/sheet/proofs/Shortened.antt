@@ -8,6 +8,7 @@ use native.Mathlib.Omega.{arith}
 use lib.Dec.{leb, ltb, eqb}
 use lib.ListN.{length, take}
 use Rattle.std.proofs.shelf.Lists.{length-take-le, take-all}
+use Rattle.std.proofs.shelf.Tests.{and-right}
 use Rattle.std.proofs.shelf.Ways.{tells}
 use Rattle.std.specs.declared.option.Option.{Option}
 use Rattle.std.specs.declared.option.Option.the-variants.{Some, None}
@@ -17,9 +18,8 @@ use Rattle.span.specs.Spans.{spanOf}
 use Rattle.tasks.specs.declared.refusal.Refusal.{Refusal}
 use Rattle.tasks.specs.declared.refusal.Refusal.the-variants.{OutOfRange, IdTaken, TableFull, LongSpan}
 use Rattle.tasks.specs.declared.table.Draft.{Draft}
-use Rattle.tasks.specs.Tasks.{Task, Table, between, every, wellCut, inRange, hasId, periods, inserted, withTask}
+use Rattle.tasks.specs.Tasks.{Task, Table, between, every, pointsMatch, inRange, hasId, periods, inserted, withTask}
 use Rattle.tasks.specs.Tables.{drafted, addRefusal, Adds}
-use Rattle.tasks.proofs.Order.{and-parts}
 
 -- the task with its lists cut off
 abbrev pub shortened : Task → Task
@@ -30,31 +30,27 @@ same-short x b p =
     ap (λ l. record { id = x .id; period = x .period; deadline = x .deadline; blocks = l; points = take 17 (x .points) }) (take-all 17 (x .blocks) b)
     ∙ ap (λ l. record { id = x .id; period = x .period; deadline = x .deadline; blocks = x .blocks; points = l }) (take-all 17 (x .points) p)
 
-and-false : (a b : Bool) → b ≡ false → (a && b) ≡ false
-and-false true b e = e
-and-false false b e = refl
-
 -- a task whose points do not go with its blocks is out of range
-ill-cut : (x : Task) → wellCut x ≡ false → inRange x ≡ false
-ill-cut x e =
+points-differ : (x : Task) → pointsMatch x ≡ false → inRange x ≡ false
+points-differ x e =
     let last = every (between 1 1000000) (x .blocks) && every (between 0 1000000) (x .points) in
-    and-false (between 1 9999999 (x .id)) _ (and-false (between 1 1000000 (x .period)) _ (and-false (between 1 (x .period) (x .deadline)) _ (ap (λ b. b && last) e)))
+    and-right (between 1 9999999 (x .id)) _ (and-right (between 1 1000000 (x .period)) _ (and-right (between 1 (x .period) (x .deadline)) _ (ap (λ b. b && last) e)))
 
-well-cut : (x : Task) → inRange x ≡ true → wellCut x ≡ true
-well-cut x h = cases (wellCut x) refl
+points-match : (x : Task) → inRange x ≡ true → pointsMatch x ≡ true
+points-match x h = cases (pointsMatch x) refl
   where
-    cases : (b : Bool) → wellCut x ≡ b → wellCut x ≡ true
+    cases : (b : Bool) → pointsMatch x ≡ b → pointsMatch x ≡ true
     cases true e = e
-    cases false e = let never : false ≡ true = sym (ill-cut x e) ∙ h in grind (arith, tells, never)
+    cases false e = let never : false ≡ true = sym (points-differ x e) ∙ h in grind (arith, tells, never)
 
 many-blocks : (x : Task) → 17 ≤ length (x .blocks) → inRange x ≡ false
-many-blocks x h = ill-cut x (grind (arith, tells))
+many-blocks x h = points-differ x (grind (arith, tells))
 
 many-points : (x : Task) → 17 ≤ length (x .points) → inRange x ≡ false
-many-points x h = ill-cut x (grind (arith, tells))
+many-points x h = points-differ x (grind (arith, tells))
 
 pub whole : (x : Task) → inRange x ≡ true → shortened x ≡ x
-whole x h = let w = well-cut x h in same-short x (grind (arith, tells)) (grind (arith, tells))
+whole x h = let w = points-match x h in same-short x (grind (arith, tells)) (grind (arith, tells))
 
 range-short : (x : Task) → inRange (shortened x) ≡ inRange x
 range-short x = blocks (leb (length (x .blocks)) 17) refl

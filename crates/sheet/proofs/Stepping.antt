@@ -21,7 +21,7 @@ use Rattle.tasks.specs.declared.refusal.Refusal.{Refusal}
 use Rattle.tasks.specs.declared.refusal.Refusal.the-variants.{WrongFields}
 use Rattle.tasks.specs.declared.table.Draft.{Draft}
 use Rattle.tasks.specs.Tasks.{Task, Table, emptyOn}
-use Rattle.tasks.specs.Tables.{drafted, beginRefusal, addRefusal, Adds, Begins}
+use Rattle.tasks.specs.Tables.{drafted, newDraftRefusal, addRefusal, Adds, NewDraft}
 use Rattle.sheet.specs.Lines.{taskFrom, AsSheet, AsTask, Misshapen, FirstRefused, LaterRefused}
 use Rattle.sheet.specs.Steps.{FirstSteps, LaterSteps}
 use Rattle.sheet.proofs.Shortened.{shortened, adds-whole}
@@ -36,14 +36,14 @@ module _ (a b : Reader) (l : Line) (h : ReadLine a l b) (d e : Draft) where
   pub task-misshapen : TaskOf (l .bytes .now) None → LaterRefused (drafted d) (a .position) (rest a) (WrongFields (l .at))
   task-misshapen never = inr (inl (misshapen AsTask a b l h (λ k. task-none (h .tree) (l .bytes .now) (h .lawful) (h .bytes) never (k .0) (k .1))))
 
-  pub cores-steps : (v : ℕ) (r : Result (Unit {0}) Refusal) → CoresOf (l .bytes .now) (Some v) → Begins (l .at) d v r e → FirstSteps a d r b e
+  pub cores-steps : (v : ℕ) (r : Result (Unit {0}) Refusal) → CoresOf (l .bytes .now) (Some v) → NewDraft (l .at) d v r e → FirstSteps a d r b e
   cores-steps v (Ok u) k g =
       let s = cores-some (h .tree) (l .bytes .now) (h .lawful) (h .bytes) v k in
       record {
         digits = s .0;
         number = s .1;
         went = subst (λ f. Went a b (line f)) (s .3) (h .went);
-        granted = subst (λ n. beginRefusal (a .position) n ≡ None) (s .2) (subst (λ n. beginRefusal n v ≡ None) (h .at) (g .0));
+        granted = subst (λ n. newDraftRefusal (a .position) n ≡ None) (s .2) (subst (λ n. newDraftRefusal n v ≡ None) (h .at) (g .0));
         holds = subst (λ n. drafted e ≡ emptyOn n) (s .2) (g .1);
       }
   cores-steps v (Err y) k g =
@@ -56,7 +56,7 @@ module _ (a b : Reader) (l : Line) (h : ReadLine a l b) (d e : Draft) where
               lawful = s .1;
               left = rest b;
               is = subst (λ f. rest a ≡ line f ++ rest b) (s .3) (h .went .bytes);
-              told = subst (λ n. beginRefusal (a .position) n ≡ Some y) (s .2) (subst (λ n. beginRefusal n v ≡ Some y) (h .at) (g .0));
+              told = subst (λ n. newDraftRefusal (a .position) n ≡ Some y) (s .2) (subst (λ n. newDraftRefusal n v ≡ Some y) (h .at) (g .0));
             })),
       )
 

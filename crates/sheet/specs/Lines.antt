@@ -11,7 +11,7 @@ use Rattle.fields.specs.Wanted.{value, sheetForm, Written, taskForm, IsTask, va
 use Rattle.tasks.specs.declared.refusal.Refusal.{Refusal}
 use Rattle.tasks.specs.declared.refusal.Refusal.the-variants.{WrongFields}
 use Rattle.tasks.specs.Tasks.{Task, Table}
-use Rattle.tasks.specs.Tables.{beginRefusal, addRefusal}
+use Rattle.tasks.specs.Tables.{newDraftRefusal, addRefusal}
 
 -- the task that a written line describes
 abbrev pub taskFrom : Written → Task
@@ -38,7 +38,7 @@ pub record CoresRefused (at : ℕ) (bs : List ℕ) (y : Refusal) : Type 0 where
   pub lawful : IsNumber digits
   pub left : List ℕ
   pub is : bs ≡ line (sheetForm digits) ++ left
-  pub told : beginRefusal at (value digits) ≡ Some y
+  pub told : newDraftRefusal at (value digits) ≡ Some y
 
 -- the line of a task form stands first, and the table refuses its task
 pub record TaskRefused (table : Table) (at : ℕ) (bs : List ℕ) (y : Refusal) : Type 0 where

@@ -13,7 +13,7 @@ use Rattle.fields.specs.Wanted.{value, sheetForm, Written, taskForm, IsTask}
 use Rattle.tasks.specs.declared.refusal.Refusal.{Refusal}
 use Rattle.tasks.specs.declared.table.Draft.{Draft}
 use Rattle.tasks.specs.Tasks.{Table, withTask, emptyOn}
-use Rattle.tasks.specs.Tables.{drafted, beginRefusal, addRefusal}
+use Rattle.tasks.specs.Tables.{drafted, newDraftRefusal, addRefusal}
 use Rattle.sheet.specs.Lines.{taskFrom, FirstRefused, LaterRefused}
 
 -- the bytes of the task lines, one after another
@@ -35,7 +35,7 @@ AllAdded table (w ∷ ws) after = (addRefusal 0 table (taskFrom w) ≡ None) × 
 pub record Granted (bs : List ℕ) (table : Table) (left : List ℕ) : Type 0 where
   pub digits : List ℕ
   pub number : IsNumber digits
-  pub cores : beginRefusal 0 (value digits) ≡ None
+  pub cores : newDraftRefusal 0 (value digits) ≡ None
   pub written : List Written
   pub lawful : All IsTask written
   pub added : AllAdded (emptyOn (value digits)) written table
@@ -46,7 +46,7 @@ abbrev pub placeOf : (bs : List ℕ) (table : Table) (left : List ℕ) → Grant
 placeOf bs table left g = length (sheetLines (g .digits) (g .written))
 
 -- some lines were granted, and the next one is refused
-pub record Broken (bs : List ℕ) (table : Table) (y : Refusal) : Type 0 where
+pub record RefusedAfter (bs : List ℕ) (table : Table) (y : Refusal) : Type 0 where
   pub left : List ℕ
   pub some : 0 < length left
   pub granted : Granted bs table left
@@ -54,10 +54,10 @@ pub record Broken (bs : List ℕ) (table : Table) (y : Refusal) : Type 0 where
 
 -- the refusal is that of the sheet's first line, or of a later line after some that were granted
 abbrev pub SheetRefused : List ℕ → Refusal → Type 0
-SheetRefused bs y = FirstRefused 0 bs y ⊎ ((table : Table) × Broken bs table y)
+SheetRefused bs y = FirstRefused 0 bs y ⊎ ((table : Table) × RefusedAfter bs table y)
 
 -- Every line is granted, and the draft holds their table; or the first line is refused, and the draft is as it was;
 -- or a later line is refused, and the draft holds the table of those before it.
 abbrev pub Reads : List ℕ → Draft → Result (Unit {0}) Refusal → Draft → Type 0
 Reads bs d (Ok u) e = Granted bs (drafted e) []
-Reads bs d (Err y) e = ((e ≡ d) × FirstRefused 0 bs y) ⊎ Broken bs (drafted e) y
+Reads bs d (Err y) e = ((e ≡ d) × FirstRefused 0 bs y) ⊎ RefusedAfter bs (drafted e) y

@@ -12,7 +12,7 @@ use Rattle.fields.specs.Wanted.{value, sheetForm, Written, taskForm, IsTask}
 use Rattle.tasks.specs.declared.refusal.Refusal.{Refusal}
 use Rattle.tasks.specs.declared.table.Draft.{Draft}
 use Rattle.tasks.specs.Tasks.{withTask, emptyOn}
-use Rattle.tasks.specs.Tables.{drafted, beginRefusal, addRefusal}
+use Rattle.tasks.specs.Tables.{drafted, newDraftRefusal, addRefusal}
 use Rattle.sheet.specs.Lines.{taskFrom, FirstRefused, LaterRefused}
 
 -- the line of a sheet form stands between a and b, and the draft e is empty on its cores
@@ -20,7 +20,7 @@ pub record CoresRead (a b : Reader) (e : Draft) : Type 0 where
   pub digits : List ℕ
   pub number : IsNumber digits
   pub went : Went a b (line (sheetForm digits))
-  pub granted : beginRefusal (a .position) (value digits) ≡ None
+  pub granted : newDraftRefusal (a .position) (value digits) ≡ None
   pub holds : drafted e ≡ emptyOn (value digits)
 
 -- the line of a task form stands between a and b, and the draft e is d with its task

@@ -7,17 +7,11 @@ use native.Mathlib.Omega.{arith}
 use lib.Dec.{leb, eqb}
 use lib.ListN.{length}
 use Rattle.std.specs.shelf.Lists.{inserted as insertedAt}
+use Rattle.std.proofs.shelf.Tests.{and-parts, and-from}
 use Rattle.std.proofs.shelf.Ways.{tells}
 use Rattle.tasks.specs.declared.task.Task.{Task as Stored}
 use Rattle.tasks.specs.Tasks.{Task, every, hasId, distinct, orderedFrom, placeFor, inserted}
 use Rattle.tasks.specs.Stored.{taskOf, tasksOf}
-
-pub and-parts : (a b : Bool) → (a && b) ≡ true → (a ≡ true) × (b ≡ true)
-and-parts true b h = (refl, h)
-and-parts false b h = grind (arith, tells, h)
-
-pub and-both : (a b : Bool) → a ≡ true → b ≡ true → (a && b) ≡ true
-and-both a b p q = ap (λ x. x && b) p ∙ q
 
 pub place-le : (d : ℕ) (ts : List Stored) → placeFor d (tasksOf ts) ≤ length ts
 place-le d [] = omega arith
@@ -48,11 +42,11 @@ length-inserted x (t ∷ ts) =
     elim (leb (t .deadline) (x .deadline)) as (λ b. length (cond b (t ∷ inserted x ts) (x ∷ t ∷ ts)) ≡ length (t ∷ ts) + 1) [ true ↦ omega arith | false ↦ omega arith ]
 
 pub every-inserted : (test : Task → Bool) (x : Task) (ts : List Task) → test x ≡ true → every test ts ≡ true → every test (inserted x ts) ≡ true
-every-inserted test x [] p h = and-both (test x) true p refl
+every-inserted test x [] p h = and-from (test x) true p refl
 every-inserted test x (t ∷ ts) p h =
     let hs = and-parts (test t) (every test ts) h in
     elim (leb (t .deadline) (x .deadline)) as (λ b. every test (cond b (t ∷ inserted x ts) (x ∷ t ∷ ts)) ≡ true)
-    [ true ↦ and-both (test t) (every test (inserted x ts)) (hs .0) (every-inserted test x ts p (hs .1)) | false ↦ and-both (test x) (every test (t ∷ ts)) p h ]
+    [ true ↦ and-from (test t) (every test (inserted x ts)) (hs .0) (every-inserted test x ts p (hs .1)) | false ↦ and-from (test x) (every test (t ∷ ts)) p h ]
 
 pub ordered-inserted : (d : ℕ) (x : Task) (ts : List Task) → leb d (x .deadline) ≡ true → orderedFrom d ts ≡ true → orderedFrom d (inserted x ts) ≡ true
 ordered-inserted d x [] low h = grind (arith, tells)

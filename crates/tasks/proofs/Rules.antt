@@ -7,16 +7,17 @@ use native.Mathlib.Omega.{arith}
 use lib.Dec.{leb, ltb}
 use lib.ListN.{length}
 use borrow.Author.Tests.{le-leb, leb-true}
+use Rattle.std.proofs.shelf.Tests.{and-parts, and-from}
 use Rattle.std.proofs.shelf.Ways.{tells}
 use Rattle.std.specs.declared.option.Option.{Option}
 use Rattle.std.specs.declared.option.Option.the-variants.{Some, None}
 use Rattle.span.specs.Spans.{spanOf, spanFrom, Positive}
 use Rattle.tasks.specs.Refusals.{firstOf}
-use Rattle.tasks.specs.Tasks.{Task, Table, between, every, inRange, wellCut, hasId, distinct, ordered, periods, inserted, withTask, emptyOn, tableRules}
+use Rattle.tasks.specs.Tasks.{Task, Table, between, every, inRange, pointsMatch, hasId, distinct, ordered, periods, inserted, withTask, emptyOn, tableRules}
 use Rattle.tasks.specs.Tables.{addRefusal}
 use Rattle.tasks.specs.declared.refusal.Refusal.{Refusal}
 use Rattle.tasks.specs.declared.refusal.Refusal.the-variants.{OutOfRange, IdTaken, TableFull, LongSpan}
-use Rattle.tasks.proofs.Order.{and-parts, and-both, length-inserted, every-inserted, ordered-inserted, distinct-inserted}
+use Rattle.tasks.proofs.Order.{length-inserted, every-inserted, ordered-inserted, distinct-inserted}
 
 -- the rules of a table, one by one
 pub record Rules (table : Table) : Type 0 where
@@ -39,11 +40,11 @@ rules-are table h =
 
 pub rules-make : (table : Table) → Rules table → tableRules table ≡ true
 rules-make table r =
-    and-both _ _ (r .cores) (and-both _ _ (le-leb _ _ (r .few)) (and-both _ _ (r .ranges) (and-both _ _ (r .ids) (and-both _ _ (r .order) (le-leb _ _ (r .short))))))
+    and-from _ _ (r .cores) (and-from _ _ (le-leb _ _ (r .few)) (and-from _ _ (r .ranges) (and-from _ _ (r .ids) (and-from _ _ (r .order) (le-leb _ _ (r .short))))))
 
 pub rules-empty : (cores : ℕ) → between 1 8 cores ≡ true → tableRules (emptyOn cores) ≡ true
 unfolding spanOf spanFrom
-rules-empty cores h = and-both (between 1 8 cores) _ h refl
+rules-empty cores h = and-from (between 1 8 cores) _ h refl
 
 pub in-range-period : (t : Task) → inRange t ≡ true → 0 < t .period
 in-range-period t h =

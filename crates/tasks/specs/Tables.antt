@@ -40,10 +40,10 @@ Adds at d x (Ok u) e = (addRefusal at (drafted d) x ≡ None) × (drafted e ≡ 
 Adds at d x (Err y) e = (addRefusal at (drafted d) x ≡ Some y) × (e ≡ d)
 
 -- why a draft cannot be begun on so many cores, if it cannot
-abbrev pub beginRefusal : ℕ → ℕ → Option Refusal
-beginRefusal at cores = firstOf ((not (between 1 8 cores), OutOfRange at) ∷ [])
+abbrev pub newDraftRefusal : ℕ → ℕ → Option Refusal
+newDraftRefusal at cores = firstOf ((not (between 1 8 cores), OutOfRange at) ∷ [])
 
 -- the draft is empty and has the cores; or it is as it was
-abbrev pub Begins : ℕ → Draft → ℕ → Result (Unit {0}) Refusal → Draft → Type 0
-Begins at d cores (Ok u) e = (beginRefusal at cores ≡ None) × (drafted e ≡ emptyOn cores)
-Begins at d cores (Err y) e = (beginRefusal at cores ≡ Some y) × (e ≡ d)
+abbrev pub NewDraft : ℕ → Draft → ℕ → Result (Unit {0}) Refusal → Draft → Type 0
+NewDraft at d cores (Ok u) e = (newDraftRefusal at cores ≡ None) × (drafted e ≡ emptyOn cores)
+NewDraft at d cores (Err y) e = (newDraftRefusal at cores ≡ Some y) × (e ≡ d)

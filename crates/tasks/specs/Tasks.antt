@@ -30,13 +30,13 @@ every test [] = true
 every test (x ∷ xs) = test x && every test xs
 
 -- 1 to 16 blocks, and exactly one point fewer
-abbrev pub wellCut : Task → Bool
-wellCut t = between 1 16 (length (t .blocks)) && eqb (length (t .points) + 1) (length (t .blocks))
+abbrev pub pointsMatch : Task → Bool
+pointsMatch t = between 1 16 (length (t .blocks)) && eqb (length (t .points) + 1) (length (t .blocks))
 
 -- every value of the task is in its range
 abbrev pub inRange : Task → Bool
 inRange t =
-    between 1 9999999 (t .id) && (between 1 1000000 (t .period) && (between 1 (t .period) (t .deadline) && (wellCut t && (every (between 1 1000000) (t .blocks) && every (between 0 1000000) (t .points)))))
+    between 1 9999999 (t .id) && (between 1 1000000 (t .period) && (between 1 (t .period) (t .deadline) && (pointsMatch t && (every (between 1 1000000) (t .blocks) && every (between 0 1000000) (t .points)))))
 
 -- some task has the id
 abbrev pub hasId : ℕ → List Task → Bool

@@ -10,10 +10,10 @@ pub fn kind_of(c: char) -> Kind
         '(' => Kind::Open,
         ')' => Kind::Close,
         ' ' => Kind::Space,
-        '\n' => Kind::Feed,
+        '\n' => Kind::LineFeed,
         'a'..='z' => Kind::Letter,
-        '0' => Kind::Nought,
+        '0' => Kind::Zero,
         '1'..='9' => Kind::Digit,
-        _ => Kind::Strange,
+        _ => Kind::Other,
     }
 }

@@ -3,7 +3,7 @@ use mathlib.Core.Logic.{_⊎_, inl, inr, ⊎-elim}
 use Rattle.tasks.specs.declared.refusal.Refusal.{Refusal}
 use Rattle.tasks.specs.Tables.{drafted, sealed}
 use Rattle.sheet.specs.Lines.{FirstRefused}
-use Rattle.sheet.specs.Sheets.{Broken, SheetRefused}
+use Rattle.sheet.specs.Sheets.{RefusedAfter, SheetRefused}
 use Rattle.writer.specs.Lines.{tableLine, refusalLine}
 use Rattle.press.proofs.answer.Needs as need
 
@@ -17,5 +17,5 @@ returns-in-Err c =
     let y = c .in-Err .refusal in
     let draft = c .read-sheet .last .draft in
     let refused : SheetRefused bs y =
-    ⊎-elim (λ (h : (draft ≡ c .new-draft .result) × FirstRefused 0 bs y). inl (h .1)) (λ (h : Broken bs (drafted draft) y). inr (drafted draft, h)) (c .in-Err .ensures tt) in
+    ⊎-elim (λ (h : (draft ≡ c .new-draft .result) × FirstRefused 0 bs y). inl (h .1)) (λ (h : RefusedAfter bs (drafted draft) y). inr (drafted draft, h)) (c .in-Err .ensures tt) in
     record { line = refusalLine y; tells = inr (y, refused, refl); writes = c .write-refusal .ensures }

@@ -95,7 +95,7 @@ impl<'a> Reader<'a> {
         };
         ahead.read_form(DEEPEST - 1)?;
         let feed = ahead.next()?;
-        let Token::Feed = feed.token else {
+        let Token::LineFeed = feed.token else {
             return Err(Refusal::ForbiddenByte { at: feed.at });
         };
         let sheet = self.sheet;

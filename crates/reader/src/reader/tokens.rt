@@ -2,11 +2,12 @@ ghost use mathlib.Core.Path.{_≡_};
 ghost use Prim.Native.Nat.{_≤_};
 ghost use lib.Dec.{eqb};
 ghost use lib.ListN.{length, take, drop};
+ghost use Rattle.grammar.specs.Forms.{Ends};
 ghost use Rattle.std.specs.shelf.Lists.{All};
-ghost use Rattle.reader.specs.Tokens.{rest, class, Ends, spells, TokenSteps};
+ghost use Rattle.reader.specs.Tokens.{rest, class, spells, TokenSteps};
 use crate::reader::Reader;
-use crate::reader::Spotted;
 use crate::reader::Token;
+use crate::reader::TokenAt;
 use grammar::kind::Kind;
 use grammar::kind::KindPartialEq;
 use grammar::kind::classify::kind_of;
@@ -64,7 +65,7 @@ impl<'a> Reader<'a> {
     }
 
     // The next token. The reader stays where no token begins.
-    pub fn next(&mut self) -> Result<Spotted<'a>, Refusal>
+    pub fn next(&mut self) -> Result<TokenAt<'a>, Refusal>
         ensures { λ r. ⌜ TokenSteps (now (self .entry)) r (now (self .exit)) ⌝ }
     {
         let at = self.position;
@@ -78,12 +79,12 @@ impl<'a> Reader<'a> {
             Kind::Open => Token::Open,
             Kind::Close => Token::Close,
             Kind::Space => Token::Space,
-            Kind::Feed => Token::Feed,
+            Kind::LineFeed => Token::LineFeed,
             Kind::Letter => Token::Word(&tail[0..run_len(tail, Kind::Letter)]),
-            Kind::Nought | Kind::Digit => Token::Number(&tail[0..run_len(tail, Kind::Digit)]),
-            Kind::Strange => return Err(Refusal::ForbiddenByte { at }),
+            Kind::Zero | Kind::Digit => Token::Number(&tail[0..run_len(tail, Kind::Digit)]),
+            Kind::Other => return Err(Refusal::ForbiddenByte { at }),
         };
         self.position = at + width(&token);
-        Ok(Spotted { token, at })
+        Ok(TokenAt { token, at })
     }
 }

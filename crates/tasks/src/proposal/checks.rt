@@ -1,6 +1,6 @@
 ghost use mathlib.Core.Path.{_≡_};
 ghost use mathlib.Core.Bool.{true};
-ghost use Rattle.tasks.specs.Tasks.{between, every, inRange, wellCut};
+ghost use Rattle.tasks.specs.Tasks.{between, every, inRange, pointsMatch};
 ghost use Rattle.tasks.specs.Stored.{proposed, taskOf};
 use crate::proposal::Proposal;
 use crate::task::Task;
@@ -27,8 +27,8 @@ fn all_between(low: u32, high: u32, numbers: &[u32]) -> bool
 
 impl Proposal<'_> {
     // 1 to 16 blocks, and exactly one point fewer.
-    fn is_well_cut(&self) -> bool
-        ensures { λ r. ⌜ r ≡ wellCut (proposed (now (self .entry))) ⌝ }
+    fn has_matching_points(&self) -> bool
+        ensures { λ r. ⌜ r ≡ pointsMatch (proposed (now (self .entry))) ⌝ }
     {
         let blocks = self.blocks.len();
         1 <= blocks && blocks <= 16 && self.points.len() == blocks - 1
@@ -41,7 +41,7 @@ impl Proposal<'_> {
         is_between(1, 9_999_999, self.id)
             && is_between(1, 1_000_000, self.period)
             && is_between(1, self.period, self.deadline)
-            && self.is_well_cut()
+            && self.has_matching_points()
             && all_between(1, 1_000_000, self.blocks)
             && all_between(0, 1_000_000, self.points)
     }

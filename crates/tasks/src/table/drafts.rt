@@ -3,7 +3,7 @@ ghost use mathlib.Core.List.{[]};
 ghost use Rattle.bounded.specs.Lists.{listOf};
 ghost use Rattle.tasks.specs.Stored.{proposed};
 ghost use Rattle.tasks.specs.Tasks.{emptyOn};
-ghost use Rattle.tasks.specs.Tables.{drafted, sealed, Adds, Begins};
+ghost use Rattle.tasks.specs.Tables.{drafted, sealed, Adds, NewDraft};
 use crate::proposal::Proposal;
 use crate::proposal::checks::is_between;
 use crate::refusal::Refusal;
@@ -46,14 +46,14 @@ impl Draft {
 
     // Empties the draft and sets its cores.
     pub fn new_draft(&mut self, cores: u32) -> Result<(), Refusal>
-        ensures { λ r. ⌜ Begins 0 (now (self .entry)) cores r (now (self .exit)) ⌝ }
+        ensures { λ r. ⌜ NewDraft 0 (now (self .entry)) cores r (now (self .exit)) ⌝ }
     {
         self.new_draft_at(0, cores)
     }
 
     // The same for the line of a sheet that begins at the offset `at`.
     pub fn new_draft_at(&mut self, at: usize, cores: u32) -> Result<(), Refusal>
-        ensures { λ r. ⌜ Begins at (now (self .entry)) cores r (now (self .exit)) ⌝ }
+        ensures { λ r. ⌜ NewDraft at (now (self .entry)) cores r (now (self .exit)) ⌝ }
     {
         if !is_between(1, MOST_CORES, cores) {
             return Err(Refusal::OutOfRange { at });

@@ -35,7 +35,7 @@ pub returns-in-rest-token : need.returns-in-rest-token
 returns-in-rest-token c =
     let way = form-runs (c .in-Continue-open .ensures tt) (c .in-Open .is) (c .in-Continue-read-form .ensures tt) in
     let told = c .in-Continue-feed .ensures tt in
-    (refl, stuck-refused _ _ _ (stuck-later Start (Closed 0) (way .0) (way .1) (stuck-token (Closed 0) (closed-undone 0) told (closed-forbids _ (kind (heads told .first)) (c .in-rest-token .not-Feed) (heads told .kindly)))))
+    (refl, stuck-refused _ _ _ (stuck-later Start (Closed 0) (way .0) (way .1) (stuck-token (Closed 0) (closed-undone 0) told (closed-forbids _ (kind (heads told .first)) (c .in-rest-token .not-LineFeed) (heads told .kindly)))))
 
 pub returns : need.returns
-returns c = line-read _ (c .in-Continue-open .ensures tt) (c .in-Open .is) (c .in-Continue-read-form .ensures tt) (c .in-Continue-feed .ensures tt) (c .in-Feed .is) refl refl
+returns c = line-read _ (c .in-Continue-open .ensures tt) (c .in-Open .is) (c .in-Continue-read-form .ensures tt) (c .in-Continue-feed .ensures tt) (c .in-LineFeed .is) refl refl

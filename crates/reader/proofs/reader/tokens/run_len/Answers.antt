@@ -1,8 +1,9 @@
 use mathlib.Core.Path.{_≡_, sym, subst, _∙_}
 use native.Mathlib.Omega.{arith}
+use Rattle.grammar.specs.Forms.{Ends}
 use Rattle.std.proofs.shelf.Lists.{drop-more, drop-all}
 use Rattle.std.proofs.shelf.Elements.{all-more}
-use Rattle.reader.specs.Tokens.{class, Ends}
+use Rattle.reader.specs.Tokens.{class}
 use Rattle.reader.proofs.reader.tokens.run_len.Needs as need
 
 pub loop-n-again : need.loop-n-again

@@ -4,7 +4,7 @@ use Prim.Native.Nat.{_+_, _-_, _*_, _<_}
 use lib.ListN.{take, drop, getD}
 use Rattle.std.proofs.shelf.Lists.{take-rest, take-more}
 use Rattle.std.proofs.shelf.Elements.{all-more}
-use Rattle.grammar.specs.Forms.{Figure}
+use Rattle.grammar.specs.Forms.{IsDigit}
 use Rattle.fields.specs.Wanted.{value}
 use Rattle.fields.specs.Pieces.{NotFirst}
 use Rattle.fields.proofs.Digits.{value-more, too-long, zero-first, stop-here, stop-end, took-number, ten-more, ten-room}
@@ -28,16 +28,16 @@ pub loop-n-again : need.loop-n-again
 loop-n-again c =
     let bs = c .args .self .now .left .now in
     let n = c .loop-n .n in
-    let digit : Figure (getD bs n 0) = c .if-is-ascii-digit .ensures tt .cases in
+    let digit : IsDigit (getD bs n 0) = c .if-is-ascii-digit .ensures tt .cases in
     let is : c .loop-n .value * 10 + c .from .result ≡ value (take (n + 1) bs) =
     ap (λ d. c .loop-n .value * 10 + d) (c .from .ensures) ∙ ap (λ v. v * 10 + (getD bs n 0 - 48)) (c .loop-n .inv .3) ∙ sym (value-more 0 (take n bs) (getD bs n 0)) ∙ ap value (sym (take-more bs n 0 (c .loop-n-test .taken))) in
-    (omega arith, omega arith, all-more Figure bs n 0 (c .loop-n-test .taken) (c .loop-n .inv .2) digit, is, omega (arith, ten-more n, c .loop-n .inv .4, c .from .ensures, digit))
+    (omega arith, omega arith, all-more IsDigit bs n 0 (c .loop-n-test .taken) (c .loop-n .inv .2) digit, is, omega (arith, ten-more n, c .loop-n .inv .4, c .from .ensures, digit))
 
 pub returns-then-bytes-eq48 : need.returns-then-bytes-eq48
 returns-then-bytes-eq48 c =
     let bs = c .args .self .now .left .now in
     let n = c .loop-n .n in
-    let stop : NotFirst Figure (drop n bs) = elim (c .loop-n-test .came) [
+    let stop : NotFirst IsDigit (drop n bs) = elim (c .loop-n-test .came) [
       | then-loop-n-test·else-is-ascii-digit w ↦ stop-here bs n (w .loop-n-test .taken) (w .if-is-ascii-digit .ensures tt .cases)
       | else-loop-n-test w ↦ stop-end bs n (w .loop-n-test .left)
     ] in
@@ -47,7 +47,7 @@ pub returns : need.returns
 returns c =
     let bs = c .args .self .now .left .now in
     let n = c .loop-n .n in
-    let stop : NotFirst Figure (drop n bs) = elim (c .loop-n-test .came) [
+    let stop : NotFirst IsDigit (drop n bs) = elim (c .loop-n-test .came) [
       | then-loop-n-test·else-is-ascii-digit w ↦ stop-here bs n (w .loop-n-test .taken) (w .if-is-ascii-digit .ensures tt .cases)
       | else-loop-n-test w ↦ stop-end bs n (w .loop-n-test .left)
     ] in
