@@ -1,4 +1,6 @@
 // Answers each of the sheets in this folder that the arguments name, as `planner` would.
+use press::MAX_LINE;
+use press::MAX_SHEET;
 use press::answer;
 use std::env;
 use std::error::AnyError;
@@ -6,16 +8,13 @@ use std::fs;
 use std::io::Read;
 use std::io::Write;
 
-// As much of a sheet as `planner` reads.
-const MOST_BYTES: u64 = 65_536;
-
 fn tell(rt: &LibcRuntime, name: &str) -> Result<(), AnyError> {
     let path = format!(rt.alloc(), "{name}.sheet")?;
     let mut sheet = Vec::new(rt.alloc());
     fs::open(rt, path.as_str())?
-        .take(MOST_BYTES)
+        .take(MAX_SHEET)
         .read_to_end(&mut sheet)?;
-    let mut line = [0; 128];
+    let mut line = [0; MAX_LINE];
     match answer(sheet.as_slice(), &mut line) {
         Ok(len) => {
             print!(rt, "{name}: ")?;

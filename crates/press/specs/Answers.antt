@@ -14,8 +14,9 @@ use Rattle.writer.specs.Texts.{Writes}
 abbrev pub LineFor : List ℕ → List ℕ → Type 0
 LineFor bs line = ((table : Table) × Granted bs table [] × (line ≡ tableLine table)) ⊎ ((y : Refusal) × SheetRefused bs y × (line ≡ refusalLine y))
 
--- the line that tells of the sheet is written, unless the buffer is too short for it
+-- the line is the only one that tells of the sheet, and it is written unless the buffer is too short for it
 pub record Answers (bs out : List ℕ) (r : Result ℕ Refusal) (after : List ℕ) : Type 0 where
   pub line : List ℕ
   pub tells : LineFor bs line
+  pub only : (other : List ℕ) → LineFor bs other → other ≡ line
   pub writes : Writes line out r after

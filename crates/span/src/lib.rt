@@ -1,11 +1,28 @@
 // The span of a list of periods: their least common multiple.
 ghost use mathlib.Core.Path.{_≡_};
-ghost use Prim.Native.Nat.{_<_, _≤_};
+ghost use mathlib.Core.List.{map};
+ghost use Prim.Native.Nat.{ℕ, _<_, _≤_};
 ghost use Rattle.std.specs.Options.{Cases};
 ghost use Rattle.span.specs.Spans.{gcdOf, lcmOf, SpanWithin};
 
 // The longest span that is answered.
 pub const LONGEST: u32 = 1_000_000;
+
+// What comes back after a period: a task, an entry, or the period alone.
+pub trait Periodic {
+    ghost periodOf: { Self → ℕ };
+
+    fn period(&self) -> u32
+        ensures { λ r. ⌜ r ≡ periodOf (now (self .entry)) ⌝ };
+}
+
+pub impl Periodic for u32 as PeriodAlone {
+    ghost periodOf = { λ n. n };
+
+    fn period(&self) -> u32 {
+        *self
+    }
+}
 
 // The greatest common divisor, by Euclid's algorithm.
 fn gcd(a: u64, b: u64) -> u64
@@ -36,16 +53,17 @@ pub fn join(span: u32, period: u32) -> Option<u32>
     Some(joined as u32)
 }
 
-// The span of the periods, unless one of them is 0 or the span is longer than the longest.
-pub fn span_of(periods: &[u32]) -> Option<u32>
-    ensures { λ r. ⌜ SpanWithin (now (periods .entry)) r ⌝ }
+// The span of the periods of the items, unless one of them is 0 or the span is longer than the longest.
+pub fn span_of<T: Periodic>(items: &[T]) -> Option<u32>
+    ensures { λ r. ⌜ SpanWithin (map (T·Periodic .periodOf) (now (items .entry))) r ⌝ }
 {
     let mut span = 1;
-    for period in periods {
-        if *period == 0 {
+    for item in items {
+        let period = item.period();
+        if period == 0 {
             return None;
         }
-        span = join(span, *period)?;
+        span = join(span, period)?;
     }
     Some(span)
 }
@@ -57,7 +75,7 @@ mod tests {
 
     #[test]
     fn spans() -> Result<(), Fail> {
-        check_eq(span_of(&[]), Some(1))?;
+        check_eq(span_of::<u32>(&[]), Some(1))?;
         check_eq(span_of(&[2, 3]), Some(6))?;
         check_eq(span_of(&[1500, 6000, 1500, 1500]), Some(6000))?;
         check_eq(span_of(&[LONGEST]), Some(LONGEST))

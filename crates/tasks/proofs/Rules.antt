@@ -1,7 +1,7 @@
 -- The rules of a table as facts, and that a new table and a granted task keep them. Assumes nothing.
 use mathlib.Core.Path.{_≡_, refl, sym, ap, subst, _∙_}
 use mathlib.Core.Bool.{Bool, true, false, cond, not, _&&_}
-use mathlib.Core.List.{List, [], _∷_}
+use mathlib.Core.List.{List, [], _∷_, map}
 use Prim.Native.Nat.{ℕ, _+_, _≤_, _<_}
 use native.Mathlib.Omega.{arith}
 use lib.Dec.{leb, ltb}
@@ -14,6 +14,8 @@ use Rattle.std.specs.declared.option.Option.the-variants.{Some, None}
 use Rattle.span.specs.Spans.{spanOf, spanFrom, Positive}
 use Rattle.tasks.specs.Refusals.{firstOf}
 use Rattle.tasks.specs.Tasks.{Task, Table, between, every, inRange, pointsMatch, hasId, distinct, ordered, periods, inserted, withTask, emptyOn, tableRules}
+use Rattle.tasks.specs.declared.task.Task.{Task as Stored}
+use Rattle.tasks.specs.Stored.{tasksOf}
 use Rattle.tasks.specs.Tables.{addRefusal}
 use Rattle.tasks.specs.declared.refusal.Refusal.{Refusal}
 use Rattle.tasks.specs.declared.refusal.Refusal.the-variants.{OutOfRange, IdTaken, TableFull, LongSpan}
@@ -58,6 +60,10 @@ positive (t ∷ ts) h = let hs = and-parts (inRange t) (every inRange ts) h in (
 
 pub table-positive : (table : Table) → tableRules table ≡ true → Positive (periods (table .tasks))
 table-positive table h = positive (table .tasks) (rules-are table h .ranges)
+
+pub stored-periods : (ts : List Stored) → map (λ (t : Stored). t .period) ts ≡ periods (tasksOf ts)
+stored-periods [] = refl
+stored-periods (t ∷ ts) = ap (λ l. t .period ∷ l) (stored-periods ts)
 
 module _ (table : Table) (x : Task) where
   -- what is left to refuse a task for, once the rest is ruled out

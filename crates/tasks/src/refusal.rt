@@ -2,7 +2,7 @@
 mod told;
 
 // One case for each refusal of the product, with the place that it names.
-#[derive(Clone, Copy)]
+#[derive(Clone, Copy, PartialEq, Eq, Debug)]
 pub enum Refusal {
     // a byte of a sheet, or its end, that the grammar forbids
     ForbiddenByte { at: usize },

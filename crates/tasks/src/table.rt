@@ -12,17 +12,21 @@ mod drafts;
 mod lists;
 mod seals;
 
+pub const MAX_CORES: u32 = 8;
+
+pub const MAX_TASKS: usize = 24;
+
 #[derive(Drop)]
 pub struct Draft {
     cores: u32,
-    tasks: Bounded<Task, 24>,
+    tasks: Bounded<Task, MAX_TASKS>,
     ghost rules: { tableRules (tableOf cores (listOf tasks)) ≡ true },
 }
 
 #[derive(Drop)]
 pub struct Sealed {
     cores: u32,
-    tasks: Bounded<Task, 24>,
+    tasks: Bounded<Task, MAX_TASKS>,
     ghost rules: { tableRules (tableOf cores (listOf tasks)) ≡ true },
 }
 

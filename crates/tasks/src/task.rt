@@ -2,6 +2,17 @@
 use bounded::Bounded;
 use bounded::BoundedClone;
 
+pub mod periods;
+
+pub const MAX_ID: u32 = 9_999_999;
+
+// The greatest period, block and cost of a point.
+pub const MAX_TICKS: u32 = 1_000_000;
+
+pub const MAX_BLOCKS: usize = 16;
+
+pub const MAX_POINTS: usize = 15;
+
 #[derive(Clone, Copy)]
 pub struct Task {
     pub id: u32,
@@ -10,7 +21,7 @@ pub struct Task {
     // counted from the release
     pub deadline: u32,
     // the lengths of the blocks, in ticks
-    pub blocks: Bounded<u32, 16>,
+    pub blocks: Bounded<u32, MAX_BLOCKS>,
     // the cost of an interruption between two blocks, one for each gap
-    pub points: Bounded<u32, 15>,
+    pub points: Bounded<u32, MAX_POINTS>,
 }

@@ -6,10 +6,10 @@ use crate::text::Text;
 use tasks::Refusal;
 use tasks::Sealed;
 
-// Room for the longest line: that of a table has 34 bytes and three numbers of at most 20 digits.
-const LINE: usize = 96;
+// No line is longer: that of a table has 34 bytes and three numbers of at most 20 digits.
+pub const MAX_LINE: usize = 96;
 
-fn refusal_line(refusal: &Refusal) -> Text<LINE>
+fn refusal_line(refusal: &Refusal) -> Text<MAX_LINE>
     ensures { λ r. ⌜ textOf r ≡ refusalLine (now (refusal .entry)) ⌝ }
 {
     let number = refusal.number();
@@ -30,7 +30,7 @@ pub fn write_refusal(refusal: &Refusal, out: &mut [u8]) -> Result<usize, Refusal
     refusal_line(refusal).copy_into(out)
 }
 
-fn table_line(table: &Sealed) -> Text<LINE>
+fn table_line(table: &Sealed) -> Text<MAX_LINE>
     ensures { λ r. ⌜ textOf r ≡ tableLine (sealed (now (table .entry))) ⌝ }
 {
     let cores = table.cores();

@@ -3,6 +3,9 @@ ghost use mathlib.Core.Bool.{true};
 ghost use Rattle.tasks.specs.Tasks.{between, every, inRange, pointsMatch};
 ghost use Rattle.tasks.specs.Stored.{proposed, taskOf};
 use crate::proposal::Proposal;
+use crate::task::MAX_BLOCKS;
+use crate::task::MAX_ID;
+use crate::task::MAX_TICKS;
 use crate::task::Task;
 use bounded::Bounded;
 
@@ -31,23 +34,23 @@ impl Proposal<'_> {
         ensures { λ r. ⌜ r ≡ pointsMatch (proposed (now (self .entry))) ⌝ }
     {
         let blocks = self.blocks.len();
-        1 <= blocks && blocks <= 16 && self.points.len() == blocks - 1
+        1 <= blocks && blocks <= MAX_BLOCKS && self.points.len() == blocks - 1
     }
 
     // Whether every value is in its range.
     pub fn is_in_range(&self) -> bool
         ensures { λ r. ⌜ r ≡ inRange (proposed (now (self .entry))) ⌝ }
     {
-        is_between(1, 9_999_999, self.id)
-            && is_between(1, 1_000_000, self.period)
+        is_between(1, MAX_ID, self.id)
+            && is_between(1, MAX_TICKS, self.period)
             && is_between(1, self.period, self.deadline)
             && self.has_matching_points()
-            && all_between(1, 1_000_000, self.blocks)
-            && all_between(0, 1_000_000, self.points)
+            && all_between(1, MAX_TICKS, self.blocks)
+            && all_between(0, MAX_TICKS, self.points)
     }
 
     // The task as a table keeps it.
-    pub fn stored(&self) -> Task
+    pub(crate) fn stored(&self) -> Task
         requires { ⌜ inRange (proposed (now self)) ≡ true ⌝ }
         ensures { λ r. ⌜ taskOf r ≡ proposed (now (self .entry)) ⌝ }
     {

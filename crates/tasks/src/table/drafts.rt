@@ -8,19 +8,18 @@ use crate::proposal::Proposal;
 use crate::proposal::checks::is_between;
 use crate::refusal::Refusal;
 use crate::table::Draft;
+use crate::table::MAX_CORES;
+use crate::table::MAX_TASKS;
 use crate::table::Sealed;
 use crate::table::lists::has_id;
-use crate::table::lists::joint_span;
 use crate::table::lists::place_for;
 use crate::task::Task;
+use crate::task::periods::TaskPeriodic;
 use bounded::Bounded;
-
-const MOST_CORES: u32 = 8;
-
-const MOST_TASKS: usize = 24;
+use span::span_of;
 
 // The tasks of an empty table.
-fn no_tasks() -> Bounded<Task, 24>
+fn no_tasks() -> Bounded<Task, MAX_TASKS>
     ensures { λ r. ⌜ listOf r ≡ [] ⌝ }
 {
     let none = Task {
@@ -55,7 +54,7 @@ impl Draft {
     pub fn new_draft_at(&mut self, at: usize, cores: u32) -> Result<(), Refusal>
         ensures { λ r. ⌜ NewDraft at (now (self .entry)) cores r (now (self .exit)) ⌝ }
     {
-        if !is_between(1, MOST_CORES, cores) {
+        if !is_between(1, MAX_CORES, cores) {
             return Err(Refusal::OutOfRange { at });
         }
         self.cores = cores;
@@ -81,14 +80,14 @@ impl Draft {
         if has_id(tasks, task.id) {
             return Err(Refusal::IdTaken { at });
         }
-        if tasks.len() >= MOST_TASKS {
+        if tasks.len() >= MAX_TASKS {
             return Err(Refusal::TableFull { at });
         }
         // The table is tried aside, and kept only if its span is short enough.
         let place = place_for(tasks, task.deadline);
         let mut next = self.tasks;
         let _ = next.insert(place, task.stored());
-        let Some(_) = joint_span(next.as_slice()) else {
+        let Some(_) = span_of(next.as_slice()) else {
             return Err(Refusal::LongSpan { at });
         };
         self.tasks = next;

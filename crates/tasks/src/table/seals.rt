@@ -5,8 +5,9 @@ ghost use Rattle.tasks.specs.Stored.{tasksOf};
 ghost use Rattle.tasks.specs.Tables.{drafted, sealed};
 use crate::table::Draft;
 use crate::table::Sealed;
-use crate::table::lists::joint_span;
 use crate::task::Task;
+use crate::task::periods::TaskPeriodic;
+use span::span_of;
 
 impl Sealed {
     pub fn cores(&self) -> u32
@@ -27,7 +28,7 @@ impl Sealed {
         ensures value { λ r. ⌜ r ≡ spanOf (periods (sealed (now (self .entry)) .tasks)) ⌝ }
         ensures least { λ r. ⌜ LeastCommonMultiple (periods (sealed (now (self .entry)) .tasks)) r ⌝ }
     {
-        match joint_span(self.tasks()) {
+        match span_of(self.tasks()) {
             Some(span) => span,
             // never: a table keeps its span within the longest
             None => unreachable(),

@@ -1,6 +1,7 @@
 use mathlib.Core.Path.{_≡_, refl, sym, ap, subst, _∙_}
 use mathlib.Core.Bool.{true, false, cond}
-use Prim.Native.Nat.{_<_, _≤_}
+use mathlib.Core.List.{List, map}
+use Prim.Native.Nat.{ℕ, _<_, _≤_}
 use native.Mathlib.Omega.{arith}
 use borrow.Author.Tests.{lt-ltb, le-leb}
 use lib.Dec.{ltb}
@@ -8,14 +9,17 @@ use lib.ListN.{length}
 use Rattle.bounded.specs.Lists.{listOf}
 use Rattle.std.proofs.shelf.Ways.{tells}
 use Rattle.std.specs.shelf.Lists.{inserted as insertedAt}
+use Rattle.std.specs.declared.option.Option.{Option}
 use Rattle.std.specs.declared.option.Option.the-variants.{Some, None}
-use Rattle.span.specs.Spans.{spanOf, Positive}
+use Rattle.span.specs.Spans.{spanOf, SpanWithin, Positive}
+use Rattle.span.proofs.Answered.{none-above}
+use Rattle.tasks.specs.declared.task.Task.{Task as Stored}
 use Rattle.tasks.specs.Tasks.{Table, inRange, every, hasId, placeFor, periods, inserted, withTask, tableRules}
 use Rattle.tasks.specs.Stored.{tasksOf, tableOf, proposed}
 use Rattle.tasks.specs.Tables.{drafted, addRefusal}
 use Rattle.tasks.specs.declared.refusal.Refusal.the-variants.{LongSpan}
 use Rattle.tasks.proofs.Order.{place-le, put-in, length-stored, every-inserted}
-use Rattle.tasks.proofs.Rules.{rules-are, positive, refusal-left, refusal-full, rules-added}
+use Rattle.tasks.proofs.Rules.{rules-are, positive, refusal-left, refusal-full, rules-added, stored-periods}
 use Rattle.tasks.proofs.table.Draft.add_at.Needs as need
 use Rattle.tasks.proofs.table.Draft.add_at.Needs.{After-has-id, After-insert}
 
@@ -29,9 +33,9 @@ module _ (c : After-has-id) where
   new-id : c .has-id .result ≡ false → hasId (c .args .task .now .id) (tasksOf (listOf (c .args .self .now .tasks))) ≡ false
   new-id e = sym (ap (hasId (c .args .task .now .id)) stored-same) ∙ sym (c .has-id .ensures) ∙ e
 
-pub returns-then-tasks-ge-MOST-TASKS : need.returns-then-tasks-ge-MOST-TASKS
-returns-then-tasks-ge-MOST-TASKS c =
-    let at = need.at·returns-then-tasks-ge-MOST-TASKS c .After-has-id in
+pub returns-then-tasks-ge-MAX-TASKS : need.returns-then-tasks-ge-MAX-TASKS
+returns-then-tasks-ge-MAX-TASKS c =
+    let at = need.at·returns-then-tasks-ge-MAX-TASKS c .After-has-id in
     (refusal-full (drafted (c .args .self .now)) (proposed (c .args .task .now)) (c .args .at) (sym (c .if-not-is-in-range .ensures tt)) (new-id at (c .if-has-id .left)) (omega (arith, stored-long at)), refl)
 
 pub insert-requires : need.insert-requires
@@ -67,25 +71,28 @@ module _ (c : After-insert) where
       refusal-left (drafted (c .args .self .now)) (proposed (c .args .task .now)) (c .args .at) fits-in fresh room
       ∙ ap (λ l. cond (ltb 1000000 (spanOf (periods l))) (Some (LongSpan (c .args .at))) None) (sym put)
 
-pub joint-span-requires : need.joint-span-requires
-joint-span-requires c κs = subst (λ l. Positive (periods (tasksOf l))) (sym (c .as-slice .ensures .value)) (all-positive (need.at·joint-span-requires c .After-insert))
+-- what the span's test told of the new table
+told-of : (c : After-insert) (r : Option ℕ) (ts : List Stored) → ts ≡ listOf (c .insert .last .self) → SpanWithin (map (λ (t : Stored). t .period) ts) r → SpanWithin (periods (tasksOf (listOf (c .insert .last .self)))) r
+told-of c r ts is h = subst (λ ps. SpanWithin ps r) (stored-periods ts ∙ ap (λ l. periods (tasksOf l)) is) h
 
 pub returns-in-rest : need.returns-in-rest
 returns-in-rest c =
     let at = need.at·returns-in-rest c .After-insert in
-    let long : 1000000 < spanOf (periods (tasksOf (listOf (c .insert .last .self)))) = omega (arith, c .in-rest .ensures tt, ap (λ l. spanOf (periods (tasksOf l))) (c .as-slice .ensures .value)) in
+    let long = none-above (periods (tasksOf (listOf (c .insert .last .self)))) (all-positive at) (told-of at None (c .as-slice .result .now) (c .as-slice .ensures .value) (c .in-rest .ensures tt)) in
     (left-over at ∙ ap (λ b. cond b (Some (LongSpan (c .args .at))) None) (lt-ltb 1000000 _ long), refl)
 
 pub ghost-self : need.ghost-self
 ghost-self c =
     let at = need.at·ghost-self c .After-insert in
     let d = c .args .self .now in
-    let short : spanOf (periods (inserted (proposed (c .args .task .now)) (tasksOf (listOf (d .tasks))))) ≤ 1000000 = omega (arith, c .in-Some .ensures tt .0, c .in-Some .ensures tt .1, ap (λ l. spanOf (periods (tasksOf l))) (c .as-slice .ensures .value), ap (λ l. spanOf (periods l)) (put at)) in
+    let told = told-of at (Some (c .in-Some .field-0)) (c .as-slice .result .now) (c .as-slice .ensures .value) (c .in-Some .ensures tt) in
+    let short : spanOf (periods (inserted (proposed (c .args .task .now)) (tasksOf (listOf (d .tasks))))) ≤ 1000000 = omega (arith, told .is, told .within, ap (λ l. spanOf (periods l)) (put at)) in
     (ap (λ l. tableRules (record { cores = d .cores; tasks = l })) (put at) ∙ rules-added (drafted d) (proposed (c .args .task .now)) (d .rules) (fits-in at) (fresh at) (room at) short, tt)
 
 pub returns : need.returns
 returns c =
     let at = need.at·returns c .After-insert in
-    let short : spanOf (periods (tasksOf (listOf (c .insert .last .self)))) ≤ 1000000 = omega (arith, c .in-Some .ensures tt .0, c .in-Some .ensures tt .1, ap (λ l. spanOf (periods (tasksOf l))) (c .as-slice .ensures .value)) in
+    let told = told-of at (Some (c .in-Some .field-0)) (c .as-slice .result .now) (c .as-slice .ensures .value) (c .in-Some .ensures tt) in
+    let short : spanOf (periods (tasksOf (listOf (c .insert .last .self)))) ≤ 1000000 = omega (arith, told .is, told .within) in
     let within : ltb 1000000 (spanOf (periods (tasksOf (listOf (c .insert .last .self))))) ≡ false = grind (arith, tells, short) in
     (left-over at ∙ ap (λ b. cond b (Some (LongSpan (c .args .at))) None) within, ap (λ l. record { cores = c .args .self .now .cores; tasks = l }) (put at))

@@ -1,21 +1,22 @@
 use mathlib.Core.Path.{_≡_, sym, ap, subst, _∙_}
 use native.Mathlib.Omega.{arith}
-use Rattle.span.specs.Spans.{spanOf, Positive, LeastCommonMultiple}
-use Rattle.span.proofs.Multiples.{span-least}
+use Rattle.span.specs.Spans.{spanOf, SpanWithin, LeastCommonMultiple}
+use Rattle.span.proofs.Answered.{none-above}
+use Rattle.std.specs.declared.option.Option.the-variants.{Some, None}
 use Rattle.tasks.specs.Tasks.{periods}
 use Rattle.tasks.specs.Tables.{sealed}
-use Rattle.tasks.proofs.Rules.{rules-are, table-positive}
+use Rattle.tasks.proofs.Rules.{rules-are, table-positive, stored-periods}
 use Rattle.tasks.proofs.table.Sealed.span.Needs as need
-
-pub joint-span-requires : need.joint-span-requires
-joint-span-requires c κs = subst (λ l. Positive (periods l)) (sym (c .tasks .ensures)) (table-positive (sealed (c .args .self .now)) (c .args .self .now .rules))
 
 pub returns : need.returns
 returns c =
-    let table = sealed (c .args .self .now) in
-    let is : c .in-Some .span ≡ spanOf (periods (table .tasks)) = c .in-Some .ensures tt .0 ∙ ap (λ l. spanOf (periods l)) (c .tasks .ensures) in
-    record { value = is; least = subst (LeastCommonMultiple (periods (table .tasks))) (sym is) (span-least _ (table-positive table (c .args .self .now .rules))) }
+    let is = stored-periods (c .tasks .result .now) ∙ ap periods (c .tasks .ensures) in
+    let told = subst (λ ps. SpanWithin ps (Some (c .in-Some .span))) is (c .in-Some .ensures tt) in
+    record { value = told .is; least = told .least }
 
 pub unreachable-requires : need.unreachable-requires
 unreachable-requires c κs =
-    omega (arith, c .in-None .ensures tt, ap (λ l. spanOf (periods l)) (c .tasks .ensures), rules-are (sealed (c .args .self .now)) (c .args .self .now .rules) .short)
+    let table = sealed (c .args .self .now) in
+    let is = stored-periods (c .tasks .result .now) ∙ ap periods (c .tasks .ensures) in
+    let told = subst (λ ps. SpanWithin ps None) is (c .in-None .ensures tt) in
+    omega (arith, none-above (periods (table .tasks)) (table-positive table (c .args .self .now .rules)) told, rules-are table (c .args .self .now .rules) .short)
