@@ -1,4 +1,4 @@
--- What each refusal says of the bytes from the start of a line on, in terms of the lawful lines alone.
+-- What each fault says of the bytes from the start of a line on, in terms of the lawful lines alone.
 use mathlib.Core.Path.{_≡_}
 use mathlib.Core.Bool.{cond}
 use mathlib.Core.List.{List, [], _∷_, _++_}
@@ -34,10 +34,12 @@ pub record Leads (bs : List ℕ) : Type 0 where
   pub tail : List ℕ
   pub is : bs ≡ line tree ++ tail
 
+-- a P stands first
 abbrev pub First : (ℕ → Type 0) → List ℕ → Type 0
 First P [] = ⊥
 First P (c ∷ q) = P c
 
+-- no lawful line goes on from p with the first byte of q, if there is one
 abbrev pub Stops : List ℕ → List ℕ → Type 0
 Stops p [] = Unit {0}
 Stops p (c ∷ q) = Begins (p ++ c ∷ []) → ⊥
@@ -58,6 +60,7 @@ pub record Eighth (p q u ds : List ℕ) : Type 0 where
   pub digits : All IsDigit ds
   pub next : First IsDigit q
 
+-- how often the byte stands in the list
 abbrev pub count : ℕ → List ℕ → ℕ
 count b [] = 0
 count b (c ∷ cs) = cond (eqb c b) 1 0 + count b cs
@@ -68,6 +71,7 @@ pub record Fifth (p q u : List ℕ) : Type 0 where
   pub four : count 40 p ≡ count 41 p + 4
   pub next : First (λ c. c ≡ 40) q
 
+-- The byte at o, or the end, is one with which no lawful line goes on; it is no eighth digit and opens no fifth level.
 pub record Forbidden (bs : List ℕ) (o : ℕ) : Type 0 where
   pub p : List ℕ
   pub q : List ℕ
@@ -76,6 +80,7 @@ pub record Forbidden (bs : List ℕ) (o : ℕ) : Type 0 where
   pub not-long : (u ds : List ℕ) → Eighth p q u ds → ⊥
   pub not-deep : (u : List ℕ) → Fifth p q u → ⊥
 
+-- No lawful line goes on, for want of an eighth digit; o is the place of the first.
 pub record TooLong (bs : List ℕ) (o : ℕ) : Type 0 where
   pub p : List ℕ
   pub q : List ℕ
@@ -85,6 +90,7 @@ pub record TooLong (bs : List ℕ) (o : ℕ) : Type 0 where
   pub long : Eighth p q u ds
   pub here : o ≡ length (u ++ 32 ∷ [])
 
+-- No lawful line goes on, for want of a fifth level; o is the place of the bracket.
 pub record TooDeep (bs : List ℕ) (o : ℕ) : Type 0 where
   pub p : List ℕ
   pub q : List ℕ
@@ -93,12 +99,13 @@ pub record TooDeep (bs : List ℕ) (o : ℕ) : Type 0 where
   pub deep : Fifth p q u
   pub here : o ≡ length p
 
--- the refusal is that of the line that stands at `start`
+-- the fault is that of the line that stands at `start`
 pub record AtOffset (P : ℕ → Type 0) (start at : ℕ) : Type 0 where
   pub o : ℕ
   pub is : at ≡ start + o
   pub fact : P o
 
+-- the bytes of a line that stands at `start` have the fault
 abbrev pub Faulty : ℕ → List ℕ → Fault → Type 0
 Faulty start bs (forbidden at) = AtOffset (Forbidden bs) start at
 Faulty start bs (tooLong at) = AtOffset (TooLong bs) start at

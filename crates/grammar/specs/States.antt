@@ -1,4 +1,5 @@
--- The step of a state at a kind of byte, and the run over many bytes.
+-- A small automaton over the bytes of a line: a device of the proofs, not the rule, which is in Forms and Faults.
+-- Contracts of the inner functions of a reader speak of its runs; the proofs tie them to lawful lines.
 use mathlib.Core.Bool.{cond}
 use mathlib.Core.List.{List, [], _∷_}
 use Prim.Native.Nat.{ℕ, _+_, _-_}
@@ -37,6 +38,8 @@ after d kinds.Letter = None
 after d kinds.Zero = None
 after d kinds.Digit = None
 after d kinds.Other = None
+
+-- the step of each state at a kind of byte
 
 abbrev pub starts : Kind → Option State
 starts kinds.Open = Some (Word 1 0)

@@ -1,4 +1,4 @@
-// Reads a sheet of tasks into a draft, and writes the lines that a program prints.
+// Reads the lines of a sheet into a draft.
 pub mod reading;
 
 pub use reading::read_sheet;

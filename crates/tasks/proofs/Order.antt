@@ -10,7 +10,8 @@ use Rattle.std.specs.shelf.Lists.{inserted as insertedAt}
 use Rattle.std.proofs.shelf.Tests.{and-parts, and-from}
 use Rattle.std.proofs.shelf.Ways.{tells}
 use Rattle.tasks.specs.declared.task.Task.{Task as Stored}
-use Rattle.tasks.specs.Tasks.{Task, every, hasId, distinct, orderedFrom, placeFor, inserted}
+use Rattle.tasks.specs.Tasks.{Task, every, hasId, distinct, orderedFrom, inserted}
+use Rattle.tasks.specs.Places.{placeFor}
 use Rattle.tasks.specs.Stored.{taskOf, tasksOf}
 
 pub place-le : (d : ℕ) (ts : List Stored) → placeFor d (tasksOf ts) ≤ length ts

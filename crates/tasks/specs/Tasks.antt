@@ -1,7 +1,7 @@
 -- Tasks and tables of tasks: their ranges, their order, and where one more task goes.
 use mathlib.Core.Bool.{Bool, true, false, cond, not, _&&_, _||_}
 use mathlib.Core.List.{List, [], _∷_, map}
-use Prim.Native.Nat.{ℕ, suc, _+_, _/_}
+use Prim.Native.Nat.{ℕ, _+_, _/_}
 use lib.Dec.{leb, eqb}
 use lib.ListN.{length}
 use Rattle.span.specs.Spans.{spanOf}
@@ -36,7 +36,12 @@ pointsMatch t = between 1 16 (length (t .blocks)) && eqb (length (t .points) + 1
 -- every value of the task is in its range
 abbrev pub inRange : Task → Bool
 inRange t =
-    between 1 9999999 (t .id) && (between 1 1000000 (t .period) && (between 1 (t .period) (t .deadline) && (pointsMatch t && (every (between 1 1000000) (t .blocks) && every (between 0 1000000) (t .points)))))
+    between 1 9999999 (t .id)
+    && (between 1 1000000 (t .period)
+    && (between 1 (t .period) (t .deadline)
+    && (pointsMatch t
+    && (every (between 1 1000000) (t .blocks)
+    && every (between 0 1000000) (t .points)))))
 
 -- some task has the id
 abbrev pub hasId : ℕ → List Task → Bool
@@ -57,6 +62,7 @@ orderedFrom d (t ∷ ts) = leb d (t .deadline) && orderedFrom (t .deadline) ts
 abbrev pub ordered : List Task → Bool
 ordered ts = orderedFrom 0 ts
 
+-- the periods of the tasks
 abbrev pub periods : List Task → List ℕ
 periods ts = map (λ t. t .period) ts
 
@@ -68,18 +74,19 @@ weight table t = spanOf (periods (table .tasks)) / t .period
 -- 1 to 8 cores, at most 24 tasks, each in range, no id twice, in order of deadline, and a span of at most 1,000,000.
 abbrev pub tableRules : Table → Bool
 tableRules table =
-    between 1 8 (table .cores) && (leb (length (table .tasks)) 24 && (every inRange (table .tasks) && (distinct (table .tasks) && (ordered (table .tasks) && leb (spanOf (periods (table .tasks))) 1000000))))
+    between 1 8 (table .cores)
+    && (leb (length (table .tasks)) 24
+    && (every inRange (table .tasks)
+    && (distinct (table .tasks)
+    && (ordered (table .tasks)
+    && leb (spanOf (periods (table .tasks))) 1000000))))
 
 -- the tasks with x put in after all those whose deadline is not later
 abbrev pub inserted : Task → List Task → List Task
 inserted x [] = x ∷ []
 inserted x (t ∷ ts) = cond (leb (t .deadline) (x .deadline)) (t ∷ inserted x ts) (x ∷ t ∷ ts)
 
--- how many tasks stand before x: those at the front whose deadline is not later
-abbrev pub placeFor : ℕ → List Task → ℕ
-placeFor d [] = 0
-placeFor d (t ∷ ts) = cond (leb (t .deadline) d) (suc (placeFor d ts)) 0
-
+-- the table with one more task
 abbrev pub withTask : Table → Task → Table
 withTask table x = record { cores = table .cores; tasks = inserted x (table .tasks) }
 

@@ -11,8 +11,13 @@ use Rattle.tasks.specs.Tasks.{Table, periods}
 
 -- a refusal's number, and the place that it names
 abbrev pub refusalLine : Refusal → List ℕ
-refusalLine y = codes "(refused (number " ++ decimal (told y .number) ++ codes ") (at " ++ decimal (told y .at) ++ codes "))\n"
+refusalLine y =
+    codes "(refused (number " ++ decimal (told y .number)
+    ++ codes ") (at " ++ decimal (told y .at) ++ codes "))\n"
 
 -- how many cores a table has, how long its span is, and how many tasks it has
 abbrev pub tableLine : Table → List ℕ
-tableLine t = codes "(table (cores " ++ decimal (t .cores) ++ codes ") (span " ++ decimal (spanOf (periods (t .tasks))) ++ codes ") (tasks " ++ decimal (length (t .tasks)) ++ codes "))\n"
+tableLine t =
+    codes "(table (cores " ++ decimal (t .cores)
+    ++ codes ") (span " ++ decimal (spanOf (periods (t .tasks)))
+    ++ codes ") (tasks " ++ decimal (length (t .tasks)) ++ codes "))\n"

@@ -1,5 +1,6 @@
 ghost use mathlib.Core.Path.{_≡_};
-ghost use Rattle.tasks.specs.Tasks.{hasId, placeFor};
+ghost use Rattle.tasks.specs.Tasks.{hasId};
+ghost use Rattle.tasks.specs.Places.{placeFor};
 ghost use Rattle.tasks.specs.Stored.{tasksOf};
 use crate::task::Task;
 

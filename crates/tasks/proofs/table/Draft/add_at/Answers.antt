@@ -14,7 +14,8 @@ use Rattle.std.specs.declared.option.Option.the-variants.{Some, None}
 use Rattle.span.specs.Spans.{spanOf, SpanWithin, Positive}
 use Rattle.span.proofs.Answered.{none-above}
 use Rattle.tasks.specs.declared.task.Task.{Task as Stored}
-use Rattle.tasks.specs.Tasks.{Table, inRange, every, hasId, placeFor, periods, inserted, withTask, tableRules}
+use Rattle.tasks.specs.Tasks.{Table, inRange, every, hasId, periods, inserted, withTask, tableRules}
+use Rattle.tasks.specs.Places.{placeFor}
 use Rattle.tasks.specs.Stored.{tasksOf, tableOf, proposed}
 use Rattle.tasks.specs.Tables.{drafted, addRefusal}
 use Rattle.tasks.specs.declared.refusal.Refusal.the-variants.{LongSpan}

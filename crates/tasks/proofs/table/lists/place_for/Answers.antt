@@ -4,7 +4,7 @@ use native.Mathlib.Omega.{arith}
 use lib.ListN.{length}
 use Rattle.std.proofs.shelf.Lists.{at-drop-more, at-drop-all}
 use Rattle.std.proofs.shelf.Ways.{tells}
-use Rattle.tasks.specs.Tasks.{placeFor}
+use Rattle.tasks.specs.Places.{placeFor}
 use Rattle.tasks.specs.Stored.{tasksOf}
 use Rattle.tasks.proofs.table.lists.place_for.Needs as need
 

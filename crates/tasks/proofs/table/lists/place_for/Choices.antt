@@ -1,7 +1,7 @@
 use Prim.Native.Nat.{_+_}
 use mathlib.Core.Path.{_≡_}
 use lib.ListN.{drop}
-use Rattle.tasks.specs.Tasks.{placeFor}
+use Rattle.tasks.specs.Places.{placeFor}
 use Rattle.tasks.specs.Stored.{tasksOf}
 use Rattle.tasks.proofs.table.lists.place_for.Given as given
 
