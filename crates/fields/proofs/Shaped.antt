@@ -1,7 +1,7 @@
 -- What an answer says of a lawful form whose line the bytes are. Assumes nothing.
 use mathlib.Core.Path.{_≡_, refl, sym, ap, subst, _∙_}
 use mathlib.Core.Bool.{Bool, true, _&&_}
-use mathlib.Core.List.{List, [], _∷_, append-nil, map}
+use mathlib.Core.List.{List, [], _∷_, append-nil}
 use Prim.Native.Nat.{ℕ, _<_, _≤_}
 use native.Mathlib.Omega.{arith}
 use lib.Chars.{codes}
@@ -13,7 +13,7 @@ use Rattle.std.specs.declared.option.Option.the-variants.{Some, None}
 use Rattle.grammar.specs.Forms.{Form, line, IsLetter, IsWord, IsNumber, Lawful, Lawfuls}
 use Rattle.grammar.proofs.Same.{lawful-spelt, line-same}
 use Rattle.fields.specs.Wanted.{value, numerals, sheetForm, Written, taskForm, AreNumbers, IsTask}
-use Rattle.fields.specs.Values.{Keeps, HasTask, CoresOf, TaskOf}
+use Rattle.fields.specs.Values.{HasTask, CoresOf, TaskOf}
 use Rattle.fields.specs.declared.values.TaskLine.{TaskLine}
 
 -- a wanted form is lawful just where its numbers are
@@ -110,21 +110,3 @@ module _ (f : Form) (bs : List ℕ) (lawful : Lawful f 4) (is : bs ≡ line f) w
 
   pub task-none : TaskOf bs None → (w : Written) → f ≡ taskForm w → ⊥
   task-none never w e = never w (lawful-task w (subst (λ g. Lawful g 4) e lawful)) (is ∙ ap line e)
-
--- the values of a written task line, by the fields of the answer
-
-module _ (w : Written) (v : TaskLine) (h : HasTask w v) where
-  pub has-id : v .id ≡ value (w .id)
-  has-id = h .id
-
-  pub has-period : v .period ≡ value (w .period)
-  has-period = h .period
-
-  pub has-deadline : v .deadline ≡ value (w .deadline)
-  has-deadline = h .deadline
-
-  pub has-blocks : Keeps (v .blocks) (map value (w .blocks))
-  has-blocks = h .blocks
-
-  pub has-points : Keeps (v .points) (map value (w .points))
-  has-points = h .points

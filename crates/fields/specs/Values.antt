@@ -2,29 +2,22 @@
 use mathlib.Core.Path.{_≡_}
 use mathlib.Core.List.{List}
 use Prim.Native.Nat.{ℕ}
-use lib.ListN.{length, take}
+use lib.ListN.{take}
 use Rattle.std.specs.declared.option.Option.{Option}
 use Rattle.std.specs.declared.option.Option.the-variants.{Some, None}
 use Rattle.bounded.specs.Lists.{listOf}
+use Rattle.bounded.specs.declared.list.Bounded.{Bounded}
+use Rattle.tasks.specs.Tasks.{Task}
 use Rattle.grammar.specs.Forms.{line, IsNumber}
-use Rattle.fields.specs.Wanted.{value, sheetForm, Written, taskForm, IsTask, TaskFields, valuesOf}
-use Rattle.fields.specs.declared.values.Numbers.{Numbers}
+use Rattle.fields.specs.Wanted.{value, sheetForm, Written, taskForm, IsTask, valuesOf}
 use Rattle.fields.specs.declared.values.TaskLine.{TaskLine}
 
--- How many numbers there were.
-abbrev pub countOf : Numbers → ℕ
-countOf k = k .count
-
--- The first of them.
-abbrev pub firstOf : Numbers → List ℕ
-firstOf k = listOf (k .leading)
-
--- k has the first seventeen numbers of the list, and its count.
-abbrev pub Keeps : Numbers → List ℕ → Type 0
-Keeps k xs = (countOf k ≡ length xs) × (firstOf k ≡ take 17 xs)
+-- k has the first seventeen numbers of the list.
+abbrev pub Keeps : Bounded ℕ 17 → List ℕ → Type 0
+Keeps k xs = listOf k ≡ take 17 xs
 
 -- v has the values of a task line, of which it keeps the lists.
-pub record Holds (v : TaskLine) (t : TaskFields) : Type 0 where
+pub record Holds (v : TaskLine) (t : Task) : Type 0 where
   pub id : v .id ≡ t .id
   pub period : v .period ≡ t .period
   pub deadline : v .deadline ≡ t .deadline

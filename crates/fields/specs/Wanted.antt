@@ -3,6 +3,7 @@ use mathlib.Core.List.{List, [], _∷_, map}
 use Prim.Native.Nat.{ℕ, _+_, _-_, _*_}
 use lib.Chars.{codes}
 use Rattle.std.specs.shelf.Lists.{All}
+use Rattle.tasks.specs.Tasks.{Task}
 use Rattle.grammar.specs.Forms.{Form, Item, Items, form, number, nested, none, more, IsNumber}
 
 -- The digits ds, read after digits of the value v.
@@ -57,14 +58,6 @@ pub record IsTask (w : Written) : Type 0 where
   pub blocks : AreNumbers (w .blocks)
   pub points : AreNumbers (w .points)
 
--- The values of a task line.
-pub record TaskFields : Type 0 where
-  pub id : ℕ
-  pub period : ℕ
-  pub deadline : ℕ
-  pub blocks : List ℕ
-  pub points : List ℕ
-
--- The values of the written numbers.
-abbrev pub valuesOf : Written → TaskFields
+-- The task that the written numbers describe.
+abbrev pub valuesOf : Written → Task
 valuesOf w = record { id = value (w .id); period = value (w .period); deadline = value (w .deadline); blocks = map value (w .blocks); points = map value (w .points) }

@@ -128,7 +128,7 @@ heads-run : (P : ℕ → Type 0) (t : Token) (w after : List ℕ) → Run P w �
 heads-run P t [] after r f = absurd (omega (arith, r .0))
 heads-run P t (c ∷ w) after r f = record { first = c; others = w ++ after; is = refl; kindly = f c (r .1 .0) }
 
-heads-all : (t : Token) (after : List ℕ) → Maximal t after → Heads t (spells t ++ after)
+pub heads-all : (t : Token) (after : List ℕ) → Maximal t after → Heads t (spells t ++ after)
 heads-all tokens.Open after m = record { first = 40; others = after; is = refl; kindly = refl }
 heads-all tokens.Close after m = record { first = 41; others = after; is = refl; kindly = refl }
 heads-all tokens.Space after m = record { first = 32; others = after; is = refl; kindly = refl }

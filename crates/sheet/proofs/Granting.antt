@@ -11,21 +11,21 @@ use Rattle.std.specs.declared.result.Result.{Result}
 use Rattle.std.specs.declared.result.Result.the-variants.{Ok, Err}
 use Rattle.std.specs.shelf.Lists.{All}
 use Rattle.grammar.specs.Forms.{line}
-use Rattle.fields.specs.Wanted.{value, sheetForm, Written, taskForm, IsTask}
+use Rattle.fields.specs.Wanted.{value, sheetForm, Written, taskForm, IsTask, valuesOf}
 use Rattle.reader.specs.declared.reader.Reader.{Reader}
 use Rattle.reader.specs.Tokens.{rest, Went}
 use Rattle.tasks.specs.declared.refusal.Refusal.{Refusal}
 use Rattle.tasks.specs.declared.table.Draft.{Draft}
 use Rattle.tasks.specs.Tasks.{Table, withTask, emptyOn}
 use Rattle.tasks.specs.Tables.{drafted, newDraftRefusal, addRefusal}
-use Rattle.sheet.specs.Lines.{taskFrom, FirstRefused, LaterRefused}
+use Rattle.sheet.specs.Lines.{FirstRefused, LaterRefused}
 use Rattle.sheet.specs.Sheets.{taskLines, sheetLines, AllAdded, Granted, placeOf, RefusedAfter, Reads}
 use Rattle.sheet.specs.Steps.{CoresRead, TaskRead}
 use Rattle.sheet.proofs.Shortened.{granted-anywhere}
 
-all-added-more : (table after : Table) (ws : List Written) (w : Written) → AllAdded table ws after → addRefusal 0 after (taskFrom w) ≡ None → AllAdded table (ws ++ w ∷ []) (withTask after (taskFrom w))
-all-added-more table after [] w a n = (subst (λ t. addRefusal 0 t (taskFrom w) ≡ None) a n, ap (λ t. withTask t (taskFrom w)) a)
-all-added-more table after (v ∷ ws) w a n = (a .0, all-added-more (withTask table (taskFrom v)) after ws w (a .1) n)
+all-added-more : (table after : Table) (ws : List Written) (w : Written) → AllAdded table ws after → addRefusal 0 after (valuesOf w) ≡ None → AllAdded table (ws ++ w ∷ []) (withTask after (valuesOf w))
+all-added-more table after [] w a n = (subst (λ t. addRefusal 0 t (valuesOf w) ≡ None) a n, ap (λ t. withTask t (valuesOf w)) a)
+all-added-more table after (v ∷ ws) w a n = (a .0, all-added-more (withTask table (valuesOf v)) after ws w (a .1) n)
 
 all-lawful-more : (ws : List Written) (w : Written) → All IsTask ws → IsTask w → All IsTask (ws ++ w ∷ [])
 all-lawful-more [] w a l = (l, tt)
@@ -75,7 +75,7 @@ reached-more bs a b d e r t =
         cores = g .cores;
         written = ws ++ t .written ∷ [];
         lawful = all-lawful-more ws (t .written) (g .lawful) (t .lawful);
-        added = subst (AllAdded (emptyOn (value (g .digits))) (ws ++ t .written ∷ [])) (sym (t .holds)) (all-added-more (emptyOn (value (g .digits))) (drafted d) ws (t .written) (g .added) (granted-anywhere (a .position) 0 (drafted d) (taskFrom (t .written)) (t .granted)));
+        added = subst (AllAdded (emptyOn (value (g .digits))) (ws ++ t .written ∷ [])) (sym (t .holds)) (all-added-more (emptyOn (value (g .digits))) (drafted d) ws (t .written) (g .added) (granted-anywhere (a .position) 0 (drafted d) (valuesOf (t .written)) (t .granted)));
         is = g .is ∙ ap (λ l. (head ++ taskLines ws) ++ l) (t .went .bytes) ∙ sym (append-assoc (head ++ taskLines ws) one (rest b)) ∙ ap (λ l. l ++ rest b) (sym longer);
       };
       here = omega (arith, t .went .to, r .here, ap length longer, length-append (head ++ taskLines ws) one);

@@ -13,13 +13,13 @@ use Rattle.grammar.specs.Faults.{Leads}
 use Rattle.grammar.proofs.Steps.{some-is, none-some}
 use Rattle.grammar.proofs.Exactly.{not-both, one-line, one-refusal as one-fault}
 use Rattle.reader.specs.Lines.{RefusedLine, refusalFor}
-use Rattle.fields.specs.Wanted.{value, sheetForm, Written, taskForm, IsTask}
+use Rattle.fields.specs.Wanted.{value, sheetForm, Written, taskForm, IsTask, valuesOf}
 use Rattle.fields.proofs.Shaped.{sheet-lawful, task-lawful, sheet-same, task-same}
 use Rattle.tasks.specs.declared.refusal.Refusal.{Refusal}
 use Rattle.tasks.specs.declared.refusal.Refusal.the-variants.{WrongFields}
 use Rattle.tasks.specs.Tasks.{Table, withTask, emptyOn}
 use Rattle.tasks.specs.Tables.{newDraftRefusal, addRefusal}
-use Rattle.sheet.specs.Lines.{taskFrom, Misshapen, CoresRefused, TaskRefused, FirstRefused, LaterRefused}
+use Rattle.sheet.specs.Lines.{Misshapen, CoresRefused, TaskRefused, FirstRefused, LaterRefused}
 use Rattle.sheet.specs.Sheets.{taskLines, AllAdded, Granted, placeOf, RefusedAfter, SheetRefused}
 use Rattle.sheet.proofs.Shortened.{granted-anywhere}
 
@@ -88,7 +88,7 @@ abbrev coresReason : ℕ → List ℕ → Option Refusal
 coresReason at digits = newDraftRefusal at (value digits)
 
 abbrev taskReason : Table → ℕ → Written → Option Refusal
-taskReason table at w = addRefusal at table (taskFrom w)
+taskReason table at w = addRefusal at table (valuesOf w)
 
 first-verdict : (at : ℕ) (bs : List ℕ) (y : Refusal) → FirstRefused at bs y → Verdict sheetForm coresReason at bs (Some y)
 first-verdict at bs y = verdict-refused sheetForm coresReason at bs y stands
@@ -112,7 +112,7 @@ Ends table at left (Some y) = (0 < length left) × LaterRefused table at left y
 -- from the table and the bytes at a place on, granted lines lead to the table `after`, and there the reading ends
 data Walk : Table → ℕ → List ℕ → Option Refusal → Table → Type 0 where
   ends : {table after : Table} {at : ℕ} {bs : List ℕ} {o : Option Refusal} → Ends table at bs o → after ≡ table → Walk table at bs o after
-  goes : {table after : Table} {at : ℕ} {bs : List ℕ} {o : Option Refusal} (s : Stands taskForm (taskReason table) at bs None) → Walk (withTask table (taskFrom (s .of))) (at + length (line (taskForm (s .of)))) (s .tail) o after → Walk table at bs o after
+  goes : {table after : Table} {at : ℕ} {bs : List ℕ} {o : Option Refusal} (s : Stands taskForm (taskReason table) at bs None) → Walk (withTask table (valuesOf (s .of))) (at + length (line (taskForm (s .of)))) (s .tail) o after → Walk table at bs o after
 
 one-end : (table : Table) (at : ℕ) (bs : List ℕ) (o p : Option Refusal) → Ends table at bs o → Ends table at bs p → o ≡ p
 one-end table at bs None None a b = refl
@@ -131,7 +131,7 @@ one-walk table at bs o p t u (ends e a) (goes s g) = absurd (no-end table at bs 
 one-walk table at bs o p t u (goes s g) (ends d b) = absurd (no-end table at bs p s d)
 one-walk table at bs o p t u (goes s g) (goes r h) =
     let same = one-standing taskForm task-same (taskReason table) at bs r s in
-    one-walk _ _ _ o p t u g (carried (λ w tail. Walk (withTask table (taskFrom w)) (at + length (line (taskForm w))) tail p u) same h)
+    one-walk _ _ _ o p t u g (carried (λ w tail. Walk (withTask table (valuesOf w)) (at + length (line (taskForm w))) tail p u) same h)
 
 -- granted lines are walked to where they end
 walked : (ws : List Written) (table : Table) (at : ℕ) (left : List ℕ) (o : Option Refusal) (after : Table) (end : ℕ) → All IsTask ws → AllAdded table ws after → end ≡ at + length (taskLines ws) → Ends after end left o → Walk table at (taskLines ws ++ left) o after
@@ -142,8 +142,8 @@ walked (w ∷ ws) table at left o after end l a here e =
     let one = line (taskForm w) in
     let there : end ≡ at + length one + length (taskLines ws) = omega (arith, length-append one (taskLines ws)) in
     goes
-    (record { of = w; lawful = task-lawful w (l .0); tail = taskLines ws ++ left; is = append-assoc one (taskLines ws) left; told = granted-anywhere 0 at table (taskFrom w) (a .0) })
-    (walked ws (withTask table (taskFrom w)) (at + length one) left o after end (l .1) (a .1) there e)
+    (record { of = w; lawful = task-lawful w (l .0); tail = taskLines ws ++ left; is = append-assoc one (taskLines ws) left; told = granted-anywhere 0 at table (valuesOf w) (a .0) })
+    (walked ws (withTask table (valuesOf w)) (at + length one) left o after end (l .1) (a .1) there e)
 
 -- The whole sheet.
 

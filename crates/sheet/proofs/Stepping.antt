@@ -8,21 +8,22 @@ use Rattle.std.specs.declared.option.Option.{Option}
 use Rattle.std.specs.declared.option.Option.the-variants.{Some, None}
 use Rattle.std.specs.declared.result.Result.{Result}
 use Rattle.std.specs.declared.result.Result.the-variants.{Ok, Err}
+use Rattle.bounded.specs.Lists.{listOf}
 use Rattle.grammar.specs.Forms.{Form, line, Lawful}
 use Rattle.reader.specs.declared.reader.Line.{Line}
 use Rattle.reader.specs.declared.reader.Reader.{Reader}
 use Rattle.reader.specs.Tokens.{rest, Went}
 use Rattle.reader.specs.Lines.{ReadLine, RefusedLine}
 use Rattle.fields.specs.declared.values.TaskLine.{TaskLine}
-use Rattle.fields.specs.Wanted.{value, sheetForm, Written, taskForm, IsTask}
-use Rattle.fields.specs.Values.{firstOf, HasTask, CoresOf, TaskOf}
+use Rattle.fields.specs.Wanted.{value, sheetForm, Written, taskForm, IsTask, valuesOf}
+use Rattle.fields.specs.Values.{HasTask, CoresOf, TaskOf}
 use Rattle.fields.proofs.Shaped.{cores-some, cores-none, task-some, task-none}
 use Rattle.tasks.specs.declared.refusal.Refusal.{Refusal}
 use Rattle.tasks.specs.declared.refusal.Refusal.the-variants.{WrongFields}
 use Rattle.tasks.specs.declared.table.Draft.{Draft}
 use Rattle.tasks.specs.Tasks.{Task, Table, emptyOn}
 use Rattle.tasks.specs.Tables.{drafted, newDraftRefusal, addRefusal, Adds, NewDraft}
-use Rattle.sheet.specs.Lines.{taskFrom, AsSheet, AsTask, Misshapen, FirstRefused, LaterRefused}
+use Rattle.sheet.specs.Lines.{AsSheet, AsTask, Misshapen, FirstRefused, LaterRefused}
 use Rattle.sheet.specs.Steps.{FirstSteps, LaterSteps}
 use Rattle.sheet.proofs.Shortened.{shortened, adds-whole}
 
@@ -60,21 +61,21 @@ module _ (a b : Reader) (l : Line) (h : ReadLine a l b) (d e : Draft) where
             })),
       )
 
-  task-adds : (w : Written) → IsTask w → h .tree ≡ taskForm w → (r : Result (Unit {0}) Refusal) → Adds (a .position) d (taskFrom w) r e → LaterSteps a d r b e
+  task-adds : (w : Written) → IsTask w → h .tree ≡ taskForm w → (r : Result (Unit {0}) Refusal) → Adds (a .position) d (valuesOf w) r e → LaterSteps a d r b e
   task-adds w t same (Ok u) g = record { written = w; lawful = t; went = subst (λ f. Went a b (line f)) same (h .went); granted = g .0; holds = g .1 }
   task-adds w t same (Err y) g = (g .1, inr (inr (record { written = w; lawful = t; left = rest b; is = subst (λ f. rest a ≡ line f ++ rest b) same (h .went .bytes); told = g .0 })))
 
   -- the task that was proposed has the values of the line, its lists cut off
-  proposal : (w : Written) (v : TaskLine) (bs ps : List ℕ) → HasTask w v → bs ≡ firstOf (v .blocks) → ps ≡ firstOf (v .points) → record { id = v .id; period = v .period; deadline = v .deadline; blocks = bs; points = ps } ≡ shortened (taskFrom w)
+  proposal : (w : Written) (v : TaskLine) (bs ps : List ℕ) → HasTask w v → bs ≡ listOf (v .blocks) → ps ≡ listOf (v .points) → record { id = v .id; period = v .period; deadline = v .deadline; blocks = bs; points = ps } ≡ shortened (valuesOf w)
   proposal w v bs ps t p q =
       ap (λ n. record { id = n; period = v .period; deadline = v .deadline; blocks = bs; points = ps }) (t .id)
       ∙ ap (λ n. record { id = value (w .id); period = n; deadline = v .deadline; blocks = bs; points = ps }) (t .period)
       ∙ ap (λ n. record { id = value (w .id); period = value (w .period); deadline = n; blocks = bs; points = ps }) (t .deadline)
-      ∙ ap (λ n. record { id = value (w .id); period = value (w .period); deadline = value (w .deadline); blocks = n; points = ps }) (p ∙ t .blocks .1)
-      ∙ ap (λ n. record { id = value (w .id); period = value (w .period); deadline = value (w .deadline); blocks = take 17 (map value (w .blocks)); points = n }) (q ∙ t .points .1)
+      ∙ ap (λ n. record { id = value (w .id); period = value (w .period); deadline = value (w .deadline); blocks = n; points = ps }) (p ∙ t .blocks)
+      ∙ ap (λ n. record { id = value (w .id); period = value (w .period); deadline = value (w .deadline); blocks = take 17 (map value (w .blocks)); points = n }) (q ∙ t .points)
 
-  pub task-steps : (v : TaskLine) (bs ps : List ℕ) (r : Result (Unit {0}) Refusal) → TaskOf (l .bytes .now) (Some v) → bs ≡ firstOf (v .blocks) → ps ≡ firstOf (v .points) → Adds (l .at) d (record { id = v .id; period = v .period; deadline = v .deadline; blocks = bs; points = ps }) r e → LaterSteps a d r b e
+  pub task-steps : (v : TaskLine) (bs ps : List ℕ) (r : Result (Unit {0}) Refusal) → TaskOf (l .bytes .now) (Some v) → bs ≡ listOf (v .blocks) → ps ≡ listOf (v .points) → Adds (l .at) d (record { id = v .id; period = v .period; deadline = v .deadline; blocks = bs; points = ps }) r e → LaterSteps a d r b e
   task-steps v bs ps r k p q g =
       let s = task-some (h .tree) (l .bytes .now) (h .lawful) (h .bytes) v k in
       let w = s .0 in
-      task-adds w (s .1) (s .3) r (adds-whole (a .position) d e (taskFrom w) r (subst (λ x. Adds (a .position) d x r e) (proposal w v bs ps (s .2) p q) (subst (λ n. Adds n d (record { id = v .id; period = v .period; deadline = v .deadline; blocks = bs; points = ps }) r e) (h .at) g)))
+      task-adds w (s .1) (s .3) r (adds-whole (a .position) d e (valuesOf w) r (subst (λ x. Adds (a .position) d x r e) (proposal w v bs ps (s .2) p q) (subst (λ n. Adds n d (record { id = v .id; period = v .period; deadline = v .deadline; blocks = bs; points = ps }) r e) (h .at) g)))

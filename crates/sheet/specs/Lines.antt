@@ -10,12 +10,8 @@ use Rattle.reader.specs.Lines.{RefusedLine}
 use Rattle.fields.specs.Wanted.{value, sheetForm, Written, taskForm, IsTask, valuesOf}
 use Rattle.tasks.specs.declared.refusal.Refusal.{Refusal}
 use Rattle.tasks.specs.declared.refusal.Refusal.the-variants.{WrongFields}
-use Rattle.tasks.specs.Tasks.{Task, Table}
+use Rattle.tasks.specs.Tasks.{Table}
 use Rattle.tasks.specs.Tables.{newDraftRefusal, addRefusal}
-
--- the task that a written line describes
-abbrev pub taskFrom : Written → Task
-taskFrom w = record { id = valuesOf w .id; period = valuesOf w .period; deadline = valuesOf w .deadline; blocks = valuesOf w .blocks; points = valuesOf w .points }
 
 abbrev pub AsSheet : Form → Type 0
 AsSheet f = (ds : List ℕ) × (f ≡ sheetForm ds)
@@ -46,7 +42,7 @@ pub record TaskRefused (table : Table) (at : ℕ) (bs : List ℕ) (y : Refusal) 
   pub lawful : IsTask written
   pub left : List ℕ
   pub is : bs ≡ line (taskForm written) ++ left
-  pub told : addRefusal at table (taskFrom written) ≡ Some y
+  pub told : addRefusal at table (valuesOf written) ≡ Some y
 
 -- why the first line of a sheet is refused: its grammar, its words and fields, or its cores
 abbrev pub FirstRefused : ℕ → List ℕ → Refusal → Type 0

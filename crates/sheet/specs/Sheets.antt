@@ -9,12 +9,12 @@ use Rattle.std.specs.declared.result.Result.{Result}
 use Rattle.std.specs.declared.result.Result.the-variants.{Ok, Err}
 use Rattle.std.specs.shelf.Lists.{All}
 use Rattle.grammar.specs.Forms.{line, IsNumber}
-use Rattle.fields.specs.Wanted.{value, sheetForm, Written, taskForm, IsTask}
+use Rattle.fields.specs.Wanted.{value, sheetForm, Written, taskForm, IsTask, valuesOf}
 use Rattle.tasks.specs.declared.refusal.Refusal.{Refusal}
 use Rattle.tasks.specs.declared.table.Draft.{Draft}
 use Rattle.tasks.specs.Tasks.{Table, withTask, emptyOn}
 use Rattle.tasks.specs.Tables.{drafted, newDraftRefusal, addRefusal}
-use Rattle.sheet.specs.Lines.{taskFrom, FirstRefused, LaterRefused}
+use Rattle.sheet.specs.Lines.{FirstRefused, LaterRefused}
 
 -- the bytes of the task lines, one after another
 abbrev pub taskLines : List Written → List ℕ
@@ -28,7 +28,7 @@ sheetLines digits ws = line (sheetForm digits) ++ taskLines ws
 -- the tasks are added to the table one after another, none is refused, and the last table is `after`
 abbrev pub AllAdded : Table → List Written → Table → Type 0
 AllAdded table [] after = after ≡ table
-AllAdded table (w ∷ ws) after = (addRefusal 0 table (taskFrom w) ≡ None) × AllAdded (withTask table (taskFrom w)) ws after
+AllAdded table (w ∷ ws) after = (addRefusal 0 table (valuesOf w) ≡ None) × AllAdded (withTask table (valuesOf w)) ws after
 
 -- The first lines of the sheet are those of a sheet form and of task forms, all of them granted:
 -- they make the table, and `left` are the bytes after them.

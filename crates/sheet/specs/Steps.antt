@@ -8,12 +8,12 @@ use Rattle.std.specs.declared.result.Result.the-variants.{Ok, Err}
 use Rattle.grammar.specs.Forms.{line, IsNumber}
 use Rattle.reader.specs.declared.reader.Reader.{Reader}
 use Rattle.reader.specs.Tokens.{rest, Went}
-use Rattle.fields.specs.Wanted.{value, sheetForm, Written, taskForm, IsTask}
+use Rattle.fields.specs.Wanted.{value, sheetForm, Written, taskForm, IsTask, valuesOf}
 use Rattle.tasks.specs.declared.refusal.Refusal.{Refusal}
 use Rattle.tasks.specs.declared.table.Draft.{Draft}
 use Rattle.tasks.specs.Tasks.{withTask, emptyOn}
 use Rattle.tasks.specs.Tables.{drafted, newDraftRefusal, addRefusal}
-use Rattle.sheet.specs.Lines.{taskFrom, FirstRefused, LaterRefused}
+use Rattle.sheet.specs.Lines.{FirstRefused, LaterRefused}
 
 -- the line of a sheet form stands between a and b, and the draft e is empty on its cores
 pub record CoresRead (a b : Reader) (e : Draft) : Type 0 where
@@ -28,8 +28,8 @@ pub record TaskRead (a b : Reader) (d e : Draft) : Type 0 where
   pub written : Written
   pub lawful : IsTask written
   pub went : Went a b (line (taskForm written))
-  pub granted : addRefusal (a .position) (drafted d) (taskFrom written) ≡ None
-  pub holds : drafted e ≡ withTask (drafted d) (taskFrom written)
+  pub granted : addRefusal (a .position) (drafted d) (valuesOf written) ≡ None
+  pub holds : drafted e ≡ withTask (drafted d) (valuesOf written)
 
 -- the first line is granted, or it is refused and the draft is as it was
 abbrev pub FirstSteps : Reader → Draft → Result (Unit {0}) Refusal → Reader → Draft → Type 0

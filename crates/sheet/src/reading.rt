@@ -44,8 +44,8 @@ fn read_task(reader: &mut Reader<'_>, draft: &mut Draft) -> Result<(), Refusal>
         id: task.id,
         period: task.period,
         deadline: task.deadline,
-        blocks: task.blocks.first(),
-        points: task.points.first(),
+        blocks: task.blocks.as_slice(),
+        points: task.points.as_slice(),
     };
     draft.add_at(line.at, &proposal)
 }

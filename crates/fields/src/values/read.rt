@@ -1,14 +1,15 @@
 ghost use mathlib.Core.Path.{_≡_};
-ghost use mathlib.Core.List.{List, [], _∷_, _++_};
-ghost use Prim.Native.Nat.{ℕ, _^_, _<_};
-ghost use Rattle.std.specs.Orderings.{Decides};
-ghost use Rattle.grammar.specs.Forms.{IsNumber};
+ghost use mathlib.Core.List.{[], _∷_};
+ghost use Rattle.grammar.specs.Forms.{Run, IsDigit, IsWord, IsNumber};
+ghost use Rattle.reader.specs.Tokens.{rest};
 ghost use Rattle.fields.specs.Wanted.{AreNumbers};
-ghost use Rattle.fields.specs.Values.{countOf, Keeps, CoresOf, TaskOf};
-ghost use Rattle.fields.specs.Pieces.{Skips, Takes, TakesNumber, TakesNumbers, HasValue, HasValues, fieldBytes, listBytes};
-use crate::values::Numbers;
+ghost use Rattle.fields.specs.Values.{CoresOf, TaskOf};
+ghost use Rattle.fields.specs.Pieces.{TakesToken, Passes, PassesWord, ValueOf, TakesNumber, Takes, HasValue, HasValues, fieldBytes, numbersBytes, listBytes, Finishes};
+use crate::values::KEPT;
 use crate::values::TaskLine;
 use bounded::Bounded;
+use reader::Reader;
+use reader::Token;
 
 // A number has at most so many digits.
 const MOST_DIGITS: usize = 7;
@@ -17,144 +18,179 @@ const MOST_DIGITS: usize = 7;
 pub fn cores_of(line: &[u8]) -> Option<u32>
     ensures { λ r. ⌜ CoresOf (now (line .entry)) r ⌝ }
 {
-    let mut fields = Fields { left: line };
-    if !fields.skip(b"(sheet") {
-        return None;
-    }
-    let cores = fields.field(b" (cores ")?;
-    if fields.ends() { Some(cores) } else { None }
+    let mut fields = Fields::new(line);
+    fields.opens(b"sheet")?;
+    let cores = fields.field(b"cores")?;
+    fields.ends()?;
+    Some(cores)
 }
 
 // The task of a line `(task (id N) (period N) (deadline N) (blocks N*) (points N*))`.
 pub fn task_of(line: &[u8]) -> Option<TaskLine>
     ensures { λ r. ⌜ TaskOf (now (line .entry)) r ⌝ }
 {
-    let mut fields = Fields { left: line };
-    if !fields.skip(b"(task") {
+    let mut fields = Fields::new(line);
+    fields.opens(b"task")?;
+    let id = fields.field(b"id")?;
+    let period = fields.field(b"period")?;
+    let deadline = fields.field(b"deadline")?;
+    let blocks = fields.list(b"blocks")?;
+    let points = fields.list(b"points")?;
+    fields.ends()?;
+    Some(TaskLine {
+        id,
+        period,
+        deadline,
+        blocks,
+        points,
+    })
+}
+
+// The value of some digits, where they are a lawful number.
+fn number_of(digits: &[u8]) -> Option<u32>
+    requires { ⌜ Run IsDigit (now digits) ⌝ }
+    ensures { λ r. ⌜ ValueOf (now (digits .entry)) r ⌝ }
+{
+    if digits.len() > MOST_DIGITS {
         return None;
     }
-    let id = fields.field(b" (id ")?;
-    let period = fields.field(b" (period ")?;
-    let deadline = fields.field(b" (deadline ")?;
-    let blocks = fields.list(b" (blocks")?;
-    let points = fields.list(b" (points")?;
-    if fields.ends() {
-        Some(TaskLine {
-            id,
-            period,
-            deadline,
-            blocks,
-            points,
-        })
-    } else {
-        None
+    // only the number 0 begins with 0
+    if digits.len() > 1 && digits[0] == b'0' {
+        return None;
     }
+    let mut value = 0u32;
+    for digit in digits {
+        value = value * 10 + u32::from(*digit - b'0');
+    }
+    Some(value)
 }
 
-impl Numbers {
-    fn new() -> Numbers
-        ensures { λ r. ⌜ Keeps r [] ⌝ }
-    {
-        Numbers {
-            leading: Bounded::new(0),
-            count: 0,
-        }
-    }
-
-    // One number more. It is kept while there is room, and counted always.
-    fn push(&mut self, n: u32)
-        requires { ⌜ countOf (now self) < 2 ^ 63 ⌝ }
-        ensures { λ _. ⌜ ((xs : List ℕ) → Keeps (now (self .entry)) xs → Keeps (now (self .exit)) (xs ++ n ∷ [])) ⌝ }
-    {
-        let _ = self.leading.push(n);
-        self.count += 1;
-    }
-}
-
-// The bytes of a line that are left to read.
+// The tokens of a line that are left to read. Each method goes past what it names,
+// or answers `None` where something else stands next.
 #[derive(Drop)]
 struct Fields<'a> {
-    left: &'a [u8],
+    reader: Reader<'a>,
 }
 
 impl<'a> Fields<'a> {
-    // Goes past `text`, where it stands next.
-    fn skip(&mut self, text: &[u8]) -> bool
-        ensures { λ r. ⌜ Skips (now (text .entry)) (now (self .entry) .left .now) r (now (self .exit) .left .now) ⌝ }
+    fn new(line: &'a [u8]) -> Fields<'a>
+        ensures { λ r. ⌜ rest (r .reader) ≡ now (line .entry) ⌝ }
     {
-        match self.left.strip_prefix(text) {
-            Some(rest) => {
-                self.left = rest;
-                true
-            }
-            None => false,
+        Fields {
+            reader: Reader::new(line),
         }
     }
 
-    // Nothing is left but the end of the line's form, and of the line.
-    fn ends(&self) -> bool
-        ensures { λ r. ⌜ Decides r (now (self .entry) .left .now ≡ 41 ∷ 10 ∷ []) ⌝ }
+    // The next token.
+    fn token(&mut self) -> Option<Token<'a>>
+        ensures { λ r. ⌜ TakesToken (rest (now (self .entry) .reader)) r (rest (now (self .exit) .reader)) ⌝ }
     {
-        let end: &[u8] = b")\n";
-        self.left == end
+        match self.reader.next() {
+            Ok(next) => Some(next.token),
+            Err(_) => None,
+        }
     }
 
-    // The number that stands next, with all its digits.
+    // A space.
+    fn space(&mut self) -> Option<()>
+        ensures { λ r. ⌜ Passes (32 ∷ []) (rest (now (self .entry) .reader)) r (rest (now (self .exit) .reader)) ⌝ }
+    {
+        match self.token()? {
+            Token::Space => Some(()),
+            _ => None,
+        }
+    }
+
+    // The end of a form.
+    fn closes(&mut self) -> Option<()>
+        ensures { λ r. ⌜ Passes (41 ∷ []) (rest (now (self .entry) .reader)) r (rest (now (self .exit) .reader)) ⌝ }
+    {
+        match self.token()? {
+            Token::Close => Some(()),
+            _ => None,
+        }
+    }
+
+    // The start of the form of that name.
+    fn opens(&mut self, name: &[u8]) -> Option<()>
+        requires { ⌜ IsWord (now name) ⌝ }
+        ensures { λ r. ⌜ PassesWord (40 ∷ now (name .entry)) (rest (now (self .entry) .reader)) r (rest (now (self .exit) .reader)) ⌝ }
+    {
+        let Token::Open = self.token()? else {
+            return None;
+        };
+        let Token::Word(letters) = self.token()? else {
+            return None;
+        };
+        if letters == name { Some(()) } else { None }
+    }
+
+    // A space, and the start of the form of that name.
+    fn nests(&mut self, name: &[u8]) -> Option<()>
+        requires { ⌜ IsWord (now name) ⌝ }
+        ensures { λ r. ⌜ PassesWord (32 ∷ 40 ∷ now (name .entry)) (rest (now (self .entry) .reader)) r (rest (now (self .exit) .reader)) ⌝ }
+    {
+        self.space()?;
+        self.opens(name)
+    }
+
+    // A number.
     fn number(&mut self) -> Option<u32>
-        ensures { λ r. ⌜ TakesNumber (now (self .entry) .left .now) r (now (self .exit) .left .now) ⌝ }
+        ensures { λ r. ⌜ TakesNumber (rest (now (self .entry) .reader)) r (rest (now (self .exit) .reader)) ⌝ }
     {
-        let bytes = self.left;
-        let mut n = 0;
-        let mut value = 0u32;
-        while n < bytes.len() && bytes[n].is_ascii_digit() {
-            if n == MOST_DIGITS {
-                return None;
+        match self.token()? {
+            Token::Number(digits) => number_of(digits),
+            _ => None,
+        }
+    }
+
+    // Any count of numbers, each after a space, and the end of their form.
+    fn numbers(&mut self) -> Option<Bounded<u32, KEPT>>
+        ensures { λ r. ⌜ Takes numbersBytes AreNumbers HasValues (rest (now (self .entry) .reader)) r (rest (now (self .exit) .reader)) ⌝ }
+    {
+        let mut held = Bounded::new(0);
+        loop {
+            match self.token()? {
+                Token::Close => return Some(held),
+                Token::Space => {
+                    let n = self.number()?;
+                    // it is kept while there is room
+                    let _ = held.push(n);
+                }
+                _ => return None,
             }
-            value = value * 10 + u32::from(bytes[n] - b'0');
-            n += 1;
         }
-        if n == 0 {
-            return None;
-        }
-        // only the number 0 begins with 0
-        if n > 1 && bytes[0] == b'0' {
-            return None;
-        }
-        self.left = &bytes[n..];
-        Some(value)
     }
 
-    // The numbers that stand next, each after a space.
-    fn numbers(&mut self) -> Option<Numbers>
-        ensures { λ r. ⌜ TakesNumbers (now (self .entry) .left .now) r (now (self .exit) .left .now) ⌝ }
-    {
-        let mut held = Numbers::new();
-        while self.skip(b" ") {
-            let n = self.number()?;
-            held.push(n);
-        }
-        Some(held)
-    }
-
-    // The field of one number that begins with `name`.
+    // The field of that name with one number.
     fn field(&mut self, name: &[u8]) -> Option<u32>
-        ensures { λ r. ⌜ Takes (fieldBytes (now (name .entry))) IsNumber HasValue (now (self .entry) .left .now) r (now (self .exit) .left .now) ⌝ }
+        requires { ⌜ IsWord (now name) ⌝ }
+        ensures { λ r. ⌜ Takes (fieldBytes (now (name .entry))) IsNumber HasValue (rest (now (self .entry) .reader)) r (rest (now (self .exit) .reader)) ⌝ }
     {
-        if !self.skip(name) {
-            return None;
-        }
+        self.nests(name)?;
+        self.space()?;
         let n = self.number()?;
-        if self.skip(b")") { Some(n) } else { None }
+        self.closes()?;
+        Some(n)
     }
 
-    // The field of any count of numbers that begins with `name`.
-    fn list(&mut self, name: &[u8]) -> Option<Numbers>
-        ensures { λ r. ⌜ Takes (listBytes (now (name .entry))) AreNumbers HasValues (now (self .entry) .left .now) r (now (self .exit) .left .now) ⌝ }
+    // The field of that name with any count of numbers.
+    fn list(&mut self, name: &[u8]) -> Option<Bounded<u32, KEPT>>
+        requires { ⌜ IsWord (now name) ⌝ }
+        ensures { λ r. ⌜ Takes (listBytes (now (name .entry))) AreNumbers HasValues (rest (now (self .entry) .reader)) r (rest (now (self .exit) .reader)) ⌝ }
     {
-        if !self.skip(name) {
+        self.nests(name)?;
+        self.numbers()
+    }
+
+    // The end of the line's form, of the line, and of its bytes.
+    fn ends(&mut self) -> Option<()>
+        ensures { λ r. ⌜ Finishes (rest (now (self .entry) .reader)) r ⌝ }
+    {
+        self.closes()?;
+        let Token::LineFeed = self.token()? else {
             return None;
-        }
-        let ns = self.numbers()?;
-        if self.skip(b")") { Some(ns) } else { None }
+        };
+        if self.reader.at_end() { Some(()) } else { None }
     }
 }

@@ -7,4 +7,4 @@ returns-in-rest c = (refl, task-misshapen (c .args .reader .now) (c .read-line .
 
 pub returns : need.returns
 returns c =
-    task-steps (c .args .reader .now) (c .read-line .last .self) (c .in-Continue-line .line) (c .in-Continue-line .ensures tt) (c .args .draft .now) (c .add-at .last .self) (c .in-Some .task) (c .first .result .now) (c .first-2 .result .now) (c .add-at .result) (c .in-Some .ensures tt) (c .first .ensures) (c .first-2 .ensures) (c .add-at .ensures)
+    task-steps (c .args .reader .now) (c .read-line .last .self) (c .in-Continue-line .line) (c .in-Continue-line .ensures tt) (c .args .draft .now) (c .add-at .last .self) (c .in-Some .task) (c .as-slice .result .now) (c .as-slice-2 .result .now) (c .add-at .result) (c .in-Some .ensures tt) (c .as-slice .ensures .value) (c .as-slice-2 .ensures .value) (c .add-at .ensures)

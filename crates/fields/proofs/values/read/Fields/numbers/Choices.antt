@@ -1,9 +1,10 @@
 use lib.ListN.{length}
+use Rattle.reader.specs.Tokens.{rest}
 use Rattle.fields.proofs.Counted.{Sofar}
 use Rattle.fields.proofs.values.read.Fields.numbers.Given as given
 
-abbrev pub Inv-loop-self : given.InvT-loop-self
-Inv-loop-self l = Sofar (l .entry .self .left .now) (l .self .left .now) (l .held)
+abbrev pub Inv-loop-held : given.InvT-loop-held
+Inv-loop-held l = Sofar (rest (l .entry .self .reader)) (rest (l .self .reader)) (l .held)
 
-abbrev pub μ-loop-self : given.MeasureT-loop-self
-μ-loop-self l = length (l .self .left .now)
+abbrev pub μ-loop-held : given.MeasureT-loop-held
+μ-loop-held l = length (rest (l .self .reader))
