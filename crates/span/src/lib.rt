@@ -39,7 +39,7 @@ fn gcd(a: u64, b: u64) -> u64
 }
 
 // The least common multiple of a span and one more period, unless it is longer than the longest.
-pub fn join(span: u32, period: u32) -> Option<u32>
+fn join(span: u32, period: u32) -> Option<u32>
     requires { ⌜ 0 < span ⌝ ∗ ⌜ 0 < period ⌝ }
     ensures { λ r. ⌜ Cases r (1000000 < lcmOf span period) (λ m. (m ≡ lcmOf span period) × (m ≤ 1000000)) ⌝ }
 {

@@ -1,0 +1,6 @@
+pub mod Limits
+pub mod Entries
+pub mod Edf
+pub mod Layers
+pub mod FixedPriority
+pub mod Meanings
