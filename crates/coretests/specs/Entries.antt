@@ -12,12 +12,12 @@ use Rattle.span.specs.Spans.{spanOf}
 use Rattle.coretests.specs.declared.entry.Entry.{Entry}
 
 -- A number is from low to high.
-abbrev pub within : ℕ → ℕ → ℕ → Bool
-within low high n = leb low n && leb n high
+abbrev pub between : ℕ → ℕ → ℕ → Bool
+between low high n = leb low n && leb n high
 
 -- The period is from 1 to 1_000_000, the deadline from 1 to the period, and the load at most 1_000_000_000.
 abbrev pub inRange : Entry → Bool
-inRange e = within 1 1000000 (e .period) && (within 1 (e .period) (e .deadline) && leb (e .load) 1000000000)
+inRange e = between 1 1000000 (e .period) && (between 1 (e .period) (e .deadline) && leb (e .load) 1000000000)
 
 -- Every entry is in range, and no deadline is less than d or than the deadline in front of it.
 abbrev pub orderedFrom : ℕ → List Entry → Bool
@@ -44,7 +44,7 @@ Lighter xs ys = Each LighterEntry xs ys
 
 -- A question about a limit has an answer of the test's own: the list is sound, and the asked deadline is from 1 to 1_000_000.
 abbrev pub askable : List Entry → ℕ → Bool
-askable xs d = sound xs && within 1 1000000 d
+askable xs d = sound xs && between 1 1000000 d
 
 -- The rule before every test's own: the limit is 0 for an unsound list, and for an asked deadline out of range.
 unfoldable pub guarded : List Entry → ℕ → Option ℕ → Option ℕ

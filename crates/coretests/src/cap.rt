@@ -4,10 +4,10 @@ ghost use Rattle.coretests.specs.Layers.{clamped, capped};
 use crate::core_test::CoreTest;
 use crate::core_test::shorter;
 use crate::entry::Entry;
-use crate::entry::LONGEST;
+use crate::entry::MAX_TICKS;
 
 // The least cap.
-const SHORTEST: u32 = 1;
+const MIN_CAP: u32 = 1;
 
 // The test below, with no limit longer than the cap `c`.
 #[derive(Clone, Copy)]
@@ -24,7 +24,7 @@ impl<C: CoreTest> Cap<C> {
     {
         Cap {
             below,
-            c: c.clamp(SHORTEST, LONGEST),
+            c: c.clamp(MIN_CAP, MAX_TICKS),
         }
     }
 }

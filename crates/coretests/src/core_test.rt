@@ -8,7 +8,7 @@ ghost use Rattle.std.specs.declared.option.Option.{Option};
 ghost use Rattle.std.specs.declared.option.Option.the-variants.{Some};
 ghost use Rattle.coretests.specs.declared.entry.Entry.{Entry};
 ghost use Rattle.coretests.specs.Limits.{AtMost, lesser};
-ghost use Rattle.coretests.specs.Entries.{sound, within, Lighter};
+ghost use Rattle.coretests.specs.Entries.{sound, between, Lighter};
 use crate::entry::Entry;
 
 // A test with its settings means two functions: which lists it accepts, and the limit of a list at an asked deadline.
@@ -24,7 +24,7 @@ pub trait CoreTest {
     law unsoundlimit: { (s : Self) (xs : List Entry) (d : ℕ) → sound xs ≡ false → limit s xs d ≡ Some 0 };
 
     // The limit at an asked deadline out of range is 0.
-    law outside: { (s : Self) (xs : List Entry) (d : ℕ) → within 1 1000000 d ≡ false → limit s xs d ≡ Some 0 };
+    law outside: { (s : Self) (xs : List Entry) (d : ℕ) → between 1 1000000 d ≡ false → limit s xs d ≡ Some 0 };
 
     // Lighter loads keep a list accepted.
     law lighter: { (s : Self) (xs ys : List Entry) → Lighter xs ys → accepts s xs → accepts s ys };

@@ -3,20 +3,20 @@ ghost use mathlib.Core.Path.{_≡_};
 ghost use mathlib.Core.Bool.{true, false};
 ghost use Rattle.std.specs.Options.{Cases};
 ghost use Rattle.span.specs.Spans.{spanOf};
-ghost use Rattle.coretests.specs.Entries.{within, inRange, orderedFrom, periods, sound, askable};
+ghost use Rattle.coretests.specs.Entries.{between, inRange, orderedFrom, periods, sound, askable};
 use crate::entry::periods::EntryPeriodic;
 use span::span_of;
 
 pub mod periods;
 
 // No list with more entries is sound.
-pub const MOST_ENTRIES: usize = 24;
+pub const MAX_ENTRIES: usize = 24;
 
 // No period, span or asked deadline is longer.
-pub const LONGEST: u32 = 1_000_000;
+pub const MAX_TICKS: u32 = 1_000_000;
 
 // No load of a sound list is greater.
-pub const HEAVIEST: u32 = 1_000_000_000;
+pub const MAX_LOAD: u32 = 1_000_000_000;
 
 // What a core test sees of a task.
 #[derive(Clone, Copy)]
@@ -27,8 +27,8 @@ pub struct Entry {
 }
 
 // Whether a number is from low to high.
-fn is_within(low: u32, high: u32, n: u32) -> bool
-    ensures { λ r. ⌜ r ≡ within low high n ⌝ }
+fn is_between(low: u32, high: u32, n: u32) -> bool
+    ensures { λ r. ⌜ r ≡ between low high n ⌝ }
 {
     low <= n && n <= high
 }
@@ -37,9 +37,9 @@ impl Entry {
     pub fn in_range(&self) -> bool
         ensures { λ r. ⌜ r ≡ inRange (now (self .entry)) ⌝ }
     {
-        is_within(1, LONGEST, self.period)
-            && is_within(1, self.period, self.deadline)
-            && self.load <= HEAVIEST
+        is_between(1, MAX_TICKS, self.period)
+            && is_between(1, self.period, self.deadline)
+            && self.load <= MAX_LOAD
     }
 }
 
@@ -61,7 +61,7 @@ fn is_ordered(list: &[Entry]) -> bool
 pub(crate) fn sound_span(list: &[Entry]) -> Option<u32>
     ensures { λ r. ⌜ Cases r (sound (now (list .entry)) ≡ false) (λ m. (sound (now (list .entry)) ≡ true) × (m ≡ spanOf (periods (now (list .entry))))) ⌝ }
 {
-    if list.len() > MOST_ENTRIES || !is_ordered(list) {
+    if list.len() > MAX_ENTRIES || !is_ordered(list) {
         return None;
     }
     span_of(list)
@@ -77,7 +77,7 @@ pub fn is_sound(list: &[Entry]) -> bool
 pub(crate) fn askable_span(list: &[Entry], d: u32) -> Option<u32>
     ensures { λ r. ⌜ Cases r (askable (now (list .entry)) d ≡ false) (λ m. (askable (now (list .entry)) d ≡ true) × (m ≡ spanOf (periods (now (list .entry))))) ⌝ }
 {
-    if !is_within(1, LONGEST, d) {
+    if !is_between(1, MAX_TICKS, d) {
         return None;
     }
     sound_span(list)

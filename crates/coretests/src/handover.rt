@@ -7,13 +7,13 @@ ghost use Rattle.coretests.specs.Entries.{sound};
 ghost use Rattle.coretests.specs.Layers.{clamped, raised, handedOver};
 use crate::core_test::CoreTest;
 use crate::entry::Entry;
-use crate::entry::MOST_ENTRIES;
+use crate::entry::MAX_ENTRIES;
 use crate::entry::is_sound;
 
 // The greatest handover.
-const SLOWEST: u32 = 10_000;
+const MAX_HANDOVER: u32 = 10_000;
 
-// The test below, asked with every load raised by `h`. A width of 16 bits keeps a raised load within its type.
+// The test below, asked with every load raised by `h`. A width of 16 bits keeps a raised load between its type.
 #[derive(Clone, Copy)]
 pub struct Handover<C> {
     below: C,
@@ -28,13 +28,13 @@ impl<C: CoreTest> Handover<C> {
     {
         Handover {
             below,
-            h: h.clamp(0, SLOWEST) as u16,
+            h: h.clamp(0, MAX_HANDOVER) as u16,
         }
     }
 }
 
 // The list with every load raised by h, in the front of an array.
-fn raise_all(list: &[Entry], h: u32) -> [Entry; MOST_ENTRIES]
+fn raise_all(list: &[Entry], h: u32) -> [Entry; MAX_ENTRIES]
     requires { ⌜ sound (now list) ≡ true ⌝ }
     requires { ⌜ h < 65536 ⌝ }
     ensures { λ r. ⌜ take (length (now (list .entry))) r ≡ raised h (now (list .entry)) ⌝ }
@@ -43,7 +43,7 @@ fn raise_all(list: &[Entry], h: u32) -> [Entry; MOST_ENTRIES]
         period: 1,
         deadline: 1,
         load: 0,
-    }; MOST_ENTRIES];
+    }; MAX_ENTRIES];
     for (i, e) in list.iter().enumerate() {
         all[i] = Entry {
             period: e.period,

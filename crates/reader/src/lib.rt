@@ -5,3 +5,4 @@ pub use reader::Line;
 pub use reader::Reader;
 pub use reader::Token;
 pub use reader::TokenAt;
+pub use reader::lines::MAX_DIGITS;

@@ -6,7 +6,7 @@ ghost use Rattle.std.specs.Options.{Cases};
 ghost use Rattle.span.specs.Spans.{gcdOf, lcmOf, SpanWithin};
 
 // The longest span that is answered.
-pub const LONGEST: u32 = 1_000_000;
+pub const MAX_SPAN: u32 = 1_000_000;
 
 // What comes back after a period: a task, an entry, or the period alone.
 pub trait Periodic {
@@ -47,7 +47,7 @@ fn join(span: u32, period: u32) -> Option<u32>
     let b = u64::from(period);
     // In 64 bits the product of two numbers of 32 bits does not wrap.
     let joined = a / gcd(a, b) * b;
-    if joined > u64::from(LONGEST) {
+    if joined > u64::from(MAX_SPAN) {
         return None;
     }
     Some(joined as u32)
@@ -78,13 +78,13 @@ mod tests {
         check_eq(span_of::<u32>(&[]), Some(1))?;
         check_eq(span_of(&[2, 3]), Some(6))?;
         check_eq(span_of(&[1500, 6000, 1500, 1500]), Some(6000))?;
-        check_eq(span_of(&[LONGEST]), Some(LONGEST))
+        check_eq(span_of(&[MAX_SPAN]), Some(MAX_SPAN))
     }
 
     #[test]
     fn refusals() -> Result<(), Fail> {
         check_eq(span_of(&[0]), None)?;
         check_eq(span_of(&[1_000_000, 999_999]), None)?;
-        check_eq(join(LONGEST, 3), None)
+        check_eq(join(MAX_SPAN, 3), None)
     }
 }

@@ -8,11 +8,9 @@ ghost use Rattle.fields.specs.Pieces.{TakesToken, Passes, PassesWord, ValueOf,
 use crate::values::KEPT;
 use crate::values::TaskLine;
 use bounded::Bounded;
+use reader::MAX_DIGITS;
 use reader::Reader;
 use reader::Token;
-
-// A number has at most so many digits.
-const MOST_DIGITS: usize = 7;
 
 // The cores of a line `(sheet (cores N))`.
 pub fn cores_of(line: &[u8]) -> Option<u32>
@@ -51,7 +49,7 @@ fn number_of(digits: &[u8]) -> Option<u32>
     requires { ⌜ Run IsDigit (now digits) ⌝ }
     ensures { λ r. ⌜ ValueOf (now (digits .entry)) r ⌝ }
 {
-    if digits.len() > MOST_DIGITS {
+    if digits.len() > MAX_DIGITS {
         return None;
     }
     // only the number 0 begins with 0

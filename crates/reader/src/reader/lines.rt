@@ -9,22 +9,22 @@ use crate::reader::Token;
 use tasks::Refusal;
 
 // The most letters of a word.
-const LONGEST_WORD: usize = 8;
+const MAX_LETTERS: usize = 8;
 
 // The most digits of a number.
-const LONGEST_NUMBER: usize = 7;
+pub const MAX_DIGITS: usize = 7;
 
 // The most forms that are open at once, the line's own counted.
-const DEEPEST: u8 = 4;
+const MAX_DEPTH: u8 = 4;
 
 // Refuses the ninth letter of the word that stands at the offset.
 fn check_word(letters: &[u8], at: usize) -> Result<(), Refusal>
     requires { ⌜ at + length (now letters) < 2 ^ 64 ⌝ }
     ensures { λ r. ⌜ refused r ≡ wordRefusal (now (letters .entry)) at ⌝ }
 {
-    if letters.len() > LONGEST_WORD {
+    if letters.len() > MAX_LETTERS {
         return Err(Refusal::ForbiddenByte {
-            at: at + LONGEST_WORD,
+            at: at + MAX_LETTERS,
         });
     }
     Ok(())
@@ -38,7 +38,7 @@ fn check_number(digits: &[u8], at: usize) -> Result<(), Refusal>
     if digits.len() > 1 && digits[0] == b'0' {
         return Err(Refusal::ForbiddenByte { at: at + 1 });
     }
-    if digits.len() > LONGEST_NUMBER {
+    if digits.len() > MAX_DIGITS {
         return Err(Refusal::LongNumber { at });
     }
     Ok(())
@@ -93,7 +93,7 @@ impl<'a> Reader<'a> {
         let Token::Open = open.token else {
             return Err(Refusal::ForbiddenByte { at: open.at });
         };
-        ahead.read_form(DEEPEST - 1)?;
+        ahead.read_form(MAX_DEPTH - 1)?;
         let feed = ahead.next()?;
         let Token::LineFeed = feed.token else {
             return Err(Refusal::ForbiddenByte { at: feed.at });

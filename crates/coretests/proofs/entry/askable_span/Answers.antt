@@ -13,6 +13,6 @@ returns c =
     let d = c .args .d in
     elim (c .sound-span .result) as (λ o. Cases o (sound xs ≡ false) (λ m. (sound xs ≡ true) × (m ≡ spanOf (periods xs))) → Cases o (askable xs d ≡ false) (λ m. (askable xs d ≡ true) × (m ≡ spanOf (periods xs)))) [
       | None ↦ λ h. and-left _ _ h
-      | Some m ↦ λ h. (and-from _ _ (h .0) (sym (c .if-not-is-within .ensures tt)), h .1)
+      | Some m ↦ λ h. (and-from _ _ (h .0) (sym (c .if-not-is-between .ensures tt)), h .1)
     ]
     (c .sound-span .ensures)

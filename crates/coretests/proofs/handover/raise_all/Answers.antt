@@ -18,9 +18,9 @@ index-all-i c = omega (arith, sound-is (c .args .list .now) (c .pre .0) .few)
 pub loop-i-again : need.loop-i-again
 loop-i-again c =
     let xs = c .args .list .now in
-    let within : c .loop-i .i < length (c .loop-i .all) = omega (arith, sound-is xs (c .pre .0) .few) in (
+    let between : c .loop-i .i < length (c .loop-i .all) = omega (arith, sound-is xs (c .pre .0) .few) in (
       length-set (c .loop-i .all) (c .loop-i .i) _ ∙ c .loop-i .inv .0,
-      raised-next (c .args .h) xs (c .loop-i .all) (c .loop-i .i) (c .loop-i-test .taken) within (c .loop-i .inv .1),
+      raised-next (c .args .h) xs (c .loop-i .all) (c .loop-i .i) (c .loop-i-test .taken) between (c .loop-i .inv .1),
     )
 
 pub returns : need.returns

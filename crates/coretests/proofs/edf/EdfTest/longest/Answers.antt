@@ -8,19 +8,19 @@ use Rattle.std.specs.declared.option.Option.the-variants.{Some}
 use Rattle.std.proofs.shelf.Tests.{and-parts}
 use Rattle.coretests.specs.declared.entry.Entry.{Entry}
 use Rattle.coretests.specs.Limits.{lesser, least, AtMost}
-use Rattle.coretests.specs.Entries.{sound, within, askable}
+use Rattle.coretests.specs.Entries.{sound, between, askable}
 use Rattle.coretests.specs.Edf.{demand, slack, leastSlack, edfLimit}
 use Rattle.coretests.proofs.Bounds.{lesser-zero, least-zero, least-at}
 use Rattle.coretests.proofs.Soundness.{in-range-from, in-range-at, blank}
-use Rattle.coretests.proofs.Guard.{guard-closed, guard-open, within-is}
+use Rattle.coretests.proofs.Guard.{guard-closed, guard-open, between-is}
 use Rattle.coretests.proofs.EdfSteps.{demand-next, demand-part, demand-whole, demand-none, slack-skip, slack-down, slack-at, lesser-member, lesser-joins, leastSlack-is, leastSlack-none}
 use Rattle.coretests.proofs.edf.EdfTest.longest.Needs as need
 
 ok : (xs : List Entry) (d : ℕ) → askable xs d ≡ true → sound xs ≡ true
-ok xs d h = and-parts (sound xs) (within 1 1000000 d) h .0
+ok xs d h = and-parts (sound xs) (between 1 1000000 d) h .0
 
 asked : (xs : List Entry) (d : ℕ) → askable xs d ≡ true → (1 ≤ d) × (d ≤ 1000000)
-asked xs d h = within-is d (and-parts (sound xs) (within 1 1000000 d) h .1)
+asked xs d h = between-is d (and-parts (sound xs) (between 1 1000000 d) h .1)
 
 -- the limit, where the first entry's deadline is `first`
 limit-is : (xs : List Entry) (d first : ℕ) → askable xs d ≡ true → 0 < length xs → first ≡ getD xs 0 blank .deadline → least (slack xs) first (d - first) ≡ edfLimit xs d

@@ -7,7 +7,7 @@ use Rattle.std.specs.declared.option.Option.the-variants.{Some}
 use Rattle.std.proofs.shelf.Lists.{at-drop-all}
 use Rattle.std.proofs.shelf.Tests.{and-parts}
 use Rattle.coretests.specs.Limits.{lesser}
-use Rattle.coretests.specs.Entries.{sound, within}
+use Rattle.coretests.specs.Entries.{sound, between}
 use Rattle.coretests.specs.FixedPriority.{tolerance, leastTolerance}
 use Rattle.coretests.proofs.Bounds.{lesser-none}
 use Rattle.coretests.proofs.Guard.{guard-closed, guard-open}
@@ -22,7 +22,7 @@ returns-then-not-is-askable c =
 
 pub tolerance-of-requires : need.tolerance-of-requires
 tolerance-of-requires c κs =
-    let s = and-parts (sound (c .args .list .now)) (within 1 1000000 (c .args .d)) (sym (c .if-not-is-askable .ensures tt)) .0 in
+    let s = and-parts (sound (c .args .list .now)) (between 1 1000000 (c .args .d)) (sym (c .if-not-is-askable .ensures tt)) .0 in
     (front-in-range (c .args .list .now) (c .loop-k .k) s, in-range-from _ (in-range-at (c .args .list .now) (c .loop-k .k) s (c .loop-k-test .taken)))
 
 pub loop-k-again : need.loop-k-again

@@ -10,8 +10,8 @@ use Rattle.fields.proofs.Digits.{too-long, zero-first, is-number, ten-more, te
 use Rattle.fields.proofs.values.read.number_of.Needs as need
 use Rattle.fields.proofs.values.read.number_of.Needs.{else-digits-gt1·by·then-digits-gt1·else-digits-eq48, else-digits-gt1·by·else-digits-gt1}
 
-pub returns-then-digits-gt-MOST-DIGITS : need.returns-then-digits-gt-MOST-DIGITS
-returns-then-digits-gt-MOST-DIGITS c = too-long (c .args .digits .now) (c .if-digits-gt-MOST-DIGITS .taken)
+pub returns-then-digits-gt-MAX-DIGITS : need.returns-then-digits-gt-MAX-DIGITS
+returns-then-digits-gt-MAX-DIGITS c = too-long (c .args .digits .now) (c .if-digits-gt-MAX-DIGITS .taken)
 
 pub returns-then-digits-eq48 : need.returns-then-digits-eq48
 returns-then-digits-eq48 c = zero-first (c .args .digits .now) (c .if-digits-gt1 .taken) (c .if-digits-eq48 .taken)
