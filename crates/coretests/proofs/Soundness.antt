@@ -6,9 +6,9 @@ use Prim.Native.Nat.{ℕ, _+_, _%_, _≤_, _<_}
 use native.Mathlib.Omega.{arith}
 use lib.Dec.{leb}
 use lib.ListN.{length, drop, getD, length-append}
-use Rattle.std.proofs.shelf.Lists.{at-drop-more, at-drop-all, map-append}
+use Rattle.std.proofs.shelf.Lists.{at-drop-more, map-append}
 use Rattle.std.proofs.shelf.Tests.{and-parts, and-from, and-left, and-right, leb-true, le-leb, lt-leb}
-use Rattle.std.proofs.shelf.Elements.{all-drop, all-getD, length-each}
+use Rattle.std.proofs.shelf.Elements.{all-getD, length-each}
 use Rattle.std.specs.shelf.Lists.{All}
 use Rattle.span.specs.Spans.{spanOf, Positive, CommonMultiple}
 use Rattle.span.proofs.Multiples.{span-some, span-common, span-prefix}

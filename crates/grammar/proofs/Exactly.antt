@@ -2,18 +2,18 @@
 use mathlib.Core.Path.{_≡_, refl, sym, ap, subst, _∙_}
 use mathlib.Core.Logic.{_⊎_, inl, inr}
 use mathlib.Core.List.{List, [], _∷_, _++_, append-assoc, append-nil}
-use Prim.Native.Nat.{ℕ, _+_, _-_, _<_, _≤_}
+use Prim.Native.Nat.{ℕ, _+_, _-_}
 use native.Mathlib.Omega.{arith}
 use lib.ListN.{length, length-append}
 use Rattle.std.specs.declared.option.Option.{Option}
 use Rattle.std.specs.declared.option.Option.the-variants.{Some, None}
 use Rattle.grammar.specs.Kinds.{kind}
 use Rattle.grammar.specs.Forms.{Form, IsDigit, line, Lawful}
-use Rattle.grammar.specs.Faults.{Begins, Whole, First, Stops, Halts, Eighth, Fifth, Forbidden, TooLong, TooDeep, AtOffset, Faulty, Leads}
+use Rattle.grammar.specs.Faults.{Begins, First, Stops, Halts, Eighth, Fifth, Faulty, Leads}
 use Rattle.grammar.specs.States.{goes, from, run, faultOf}
 use Rattle.grammar.specs.Faults.{Fault, forbidden, tooLong, tooDeep}
 use Rattle.grammar.specs.States.{State, Start, Word, Item, Zero, Digits, Closed, Done}
-use Rattle.grammar.proofs.Steps.{some-is, none-some}
+use Rattle.grammar.proofs.Steps.{none-some}
 use Rattle.grammar.proofs.Runs.{from-append, run-line}
 use Rattle.grammar.proofs.Reach.{reached}
 use Rattle.grammar.proofs.Same.{rest-same, head-same, lawful-spelt, line-same}

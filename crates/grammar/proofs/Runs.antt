@@ -1,8 +1,8 @@
 -- The run over a lawful line ends. Assumes nothing.
-use mathlib.Core.Path.{_≡_, refl, sym, ap, subst, _∙_}
-use mathlib.Core.Bool.{Bool, true, false, cond}
+use mathlib.Core.Path.{_≡_, refl, sym, ap, _∙_}
+use mathlib.Core.Bool.{cond}
 use mathlib.Core.Logic.{_⊎_, inl, inr}
-use mathlib.Core.List.{List, [], _∷_, _++_, append-assoc, append-nil}
+use mathlib.Core.List.{List, [], _∷_, _++_, append-assoc}
 use Prim.Native.Nat.{ℕ, zero, suc, _+_, _-_, _<_, _≤_}
 use native.Mathlib.Omega.{arith}
 use lib.ListN.{length}
@@ -13,13 +13,12 @@ use Rattle.std.specs.shelf.Lists.{All}
 use Rattle.std.specs.declared.option.Option.{Option}
 use Rattle.std.specs.declared.option.Option.the-variants.{Some, None}
 use Rattle.grammar.specs.Kinds.{kind}
-use Rattle.grammar.specs.Forms.{Form, form, Items, none, more, number, nested, IsLetter, IsDigit, IsWord, IsNumber, render, renderItem, renders, line, Lawful, LawfulItem, Lawfuls}
+use Rattle.grammar.specs.Forms.{Form, form, Items, none, more, number, nested, IsLetter, IsDigit, IsNumber, render, renderItem, renders, line, Lawful, LawfulItem, Lawfuls}
 use Rattle.grammar.specs.Forms as forms
 use Rattle.grammar.specs.States.{goes, after, from, run}
-use Rattle.grammar.specs.declared.kind.Kind.{Kind}
 use Rattle.grammar.specs.declared.kind.Kind.the-variants as kinds
 use Rattle.grammar.specs.States.{State, Start, Word, Item, Zero, Digits, Closed, Done}
-use Rattle.grammar.proofs.Steps.{letter-kind, digit-kind, figure-kind, some-is, none-some, zero-no}
+use Rattle.grammar.proofs.Steps.{letter-kind, figure-kind, none-some, zero-no}
 
 pub from-append : (o : Option State) (p q : List ℕ) → from o (p ++ q) ≡ from (from o p) q
 from-append None p q = refl

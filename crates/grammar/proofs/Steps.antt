@@ -1,8 +1,8 @@
 -- The kinds of bytes, and single steps. Assumes nothing.
-use mathlib.Core.Path.{_≡_, refl, sym, ap, subst, _∙_}
+use mathlib.Core.Path.{_≡_, refl, sym}
 use mathlib.Core.Bool.{Bool, true, false, cond}
 use mathlib.Core.Logic.{_⊎_, inl, inr}
-use Prim.Native.Nat.{ℕ, zero, suc, _+_, _-_, _<_, _≤_}
+use Prim.Native.Nat.{ℕ, _-_, _<_, _≤_}
 use native.Mathlib.Omega.{arith}
 use lib.Dec.{eqb, ltb}
 use Rattle.std.proofs.shelf.Ways.{tells}
@@ -10,10 +10,7 @@ use Rattle.std.specs.declared.option.Option.{Option}
 use Rattle.std.specs.declared.option.Option.the-variants.{Some, None}
 use Rattle.grammar.specs.Kinds.{kind}
 use Rattle.grammar.specs.Forms.{IsLetter, IsDigit}
-use Rattle.grammar.specs.States.{goes, after, from, run}
-use Rattle.grammar.specs.declared.kind.Kind.{Kind}
 use Rattle.grammar.specs.declared.kind.Kind.the-variants as kinds
-use Rattle.grammar.specs.States.{State, Start, Word, Item, Zero, Digits, Closed, Done}
 
 pub is-open : (c : ℕ) → kind c ≡ kinds.Open → c ≡ 40
 is-open c h = grind (arith, tells)

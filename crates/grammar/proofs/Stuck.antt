@@ -1,27 +1,27 @@
 -- Where a run goes no further the line is refused, and how. Assumes nothing.
-use mathlib.Core.Path.{_≡_, refl, sym, ap, subst, _∙_}
-use mathlib.Core.Bool.{Bool, true, false, cond}
+use mathlib.Core.Path.{_≡_, refl, sym, ap, _∙_}
+use mathlib.Core.Bool.{cond}
 use mathlib.Core.Logic.{_⊎_, inl, inr}
 use mathlib.Core.List.{List, [], _∷_, _++_, append-assoc, append-nil}
-use Prim.Native.Nat.{ℕ, zero, suc, _+_, _-_, _<_, _≤_}
+use Prim.Native.Nat.{ℕ, _+_, _-_, _≤_}
 use native.Mathlib.Omega.{arith}
 use lib.ListN.{length, length-append}
-use lib.Dec.{eqb, ltb}
+use lib.Dec.{eqb}
 use Rattle.std.proofs.shelf.Ways.{tells}
 use Rattle.std.specs.shelf.Lists.{All}
 use Rattle.std.specs.declared.option.Option.{Option}
 use Rattle.std.specs.declared.option.Option.the-variants.{Some, None}
 use Rattle.grammar.specs.Kinds.{kind}
-use Rattle.grammar.specs.Forms.{Form, IsDigit, line, Lawful}
-use Rattle.grammar.specs.Faults.{Begins, Whole, Halts, Eighth, Fifth, count, Forbidden, TooLong, TooDeep, AtOffset, Faulty}
+use Rattle.grammar.specs.Forms.{IsDigit, line}
+use Rattle.grammar.specs.Faults.{Begins, Whole, Halts, Eighth, Fifth, count, Faulty}
 use Rattle.grammar.specs.States.{goes, after, from, run, faultOf}
 use Rattle.grammar.specs.declared.kind.Kind.{Kind}
 use Rattle.grammar.specs.declared.kind.Kind.the-variants as kinds
-use Rattle.grammar.specs.Faults.{Fault, forbidden, tooLong, tooDeep}
+use Rattle.grammar.specs.Faults.{forbidden, tooLong, tooDeep}
 use Rattle.grammar.specs.States.{State, Start, Word, Item, Zero, Digits, Closed, Done}
-use Rattle.grammar.proofs.Steps.{is-open, is-close, is-zero, is-digit, figure-kind, some-is, none-some, taken, not-zero, only-zero, left-out}
+use Rattle.grammar.proofs.Steps.{is-open, is-zero, is-digit, figure-kind, some-is, none-some, taken, not-zero, only-zero, left-out}
 use Rattle.grammar.proofs.Runs.{from-append, front-runs, run-digits, run-line}
-use Rattle.grammar.proofs.Reach.{Reach, reached, reach-begins, not-deeper, Within, Counting}
+use Rattle.grammar.proofs.Reach.{reached, reach-begins, not-deeper, Counting}
 
 -- how many forms are open
 

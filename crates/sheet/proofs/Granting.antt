@@ -1,11 +1,10 @@
 -- One granted line after another. Assumes nothing.
 use mathlib.Core.Path.{_≡_, refl, sym, ap, subst, _∙_}
-use mathlib.Core.Logic.{_⊎_, inl, inr}
+use mathlib.Core.Logic.{inl, inr}
 use mathlib.Core.List.{List, [], _∷_, _++_, append-assoc, append-nil}
-use Prim.Native.Nat.{ℕ, _+_, _-_, _<_, _≤_}
+use Prim.Native.Nat.{ℕ, _+_, _-_, _<_}
 use native.Mathlib.Omega.{arith}
-use lib.ListN.{length, drop, length-append}
-use Rattle.std.proofs.shelf.Lists.{length-drop}
+use lib.ListN.{length, length-append}
 use Rattle.std.specs.declared.option.Option.the-variants.{None}
 use Rattle.std.specs.declared.result.Result.{Result}
 use Rattle.std.specs.declared.result.Result.the-variants.{Ok, Err}
@@ -13,7 +12,7 @@ use Rattle.std.specs.shelf.Lists.{All}
 use Rattle.grammar.specs.Forms.{line}
 use Rattle.fields.specs.Wanted.{value, sheetForm, Written, taskForm, IsTask, valuesOf}
 use Rattle.reader.specs.declared.reader.Reader.{Reader}
-use Rattle.reader.specs.Tokens.{rest, Went}
+use Rattle.reader.specs.Tokens.{rest}
 use Rattle.tasks.specs.declared.refusal.Refusal.{Refusal}
 use Rattle.tasks.specs.declared.table.Draft.{Draft}
 use Rattle.tasks.specs.Tasks.{Table, withTask, emptyOn}

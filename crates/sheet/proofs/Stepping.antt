@@ -1,28 +1,27 @@
 -- What a lawful line does, by its fields and by what the draft answered. Assumes nothing.
-use mathlib.Core.Path.{_≡_, refl, sym, ap, subst, _∙_}
-use mathlib.Core.Logic.{_⊎_, inl, inr}
+use mathlib.Core.Path.{_≡_, ap, subst, _∙_}
+use mathlib.Core.Logic.{inl, inr}
 use mathlib.Core.List.{List, _++_, map}
 use Prim.Native.Nat.{ℕ}
 use lib.ListN.{take}
-use Rattle.std.specs.declared.option.Option.{Option}
 use Rattle.std.specs.declared.option.Option.the-variants.{Some, None}
 use Rattle.std.specs.declared.result.Result.{Result}
 use Rattle.std.specs.declared.result.Result.the-variants.{Ok, Err}
 use Rattle.bounded.specs.Lists.{listOf}
-use Rattle.grammar.specs.Forms.{Form, line, Lawful}
+use Rattle.grammar.specs.Forms.{Form, line}
 use Rattle.reader.specs.declared.reader.Line.{Line}
 use Rattle.reader.specs.declared.reader.Reader.{Reader}
 use Rattle.reader.specs.Tokens.{rest, Went}
-use Rattle.reader.specs.Lines.{ReadLine, RefusedLine}
+use Rattle.reader.specs.Lines.{ReadLine}
 use Rattle.fields.specs.declared.values.TaskLine.{TaskLine}
-use Rattle.fields.specs.Wanted.{value, sheetForm, Written, taskForm, IsTask, valuesOf}
+use Rattle.fields.specs.Wanted.{value, Written, taskForm, IsTask, valuesOf}
 use Rattle.fields.specs.Values.{HasTask, CoresOf, TaskOf}
 use Rattle.fields.proofs.Shaped.{cores-some, cores-none, task-some, task-none}
 use Rattle.tasks.specs.declared.refusal.Refusal.{Refusal}
 use Rattle.tasks.specs.declared.refusal.Refusal.the-variants.{WrongFields}
 use Rattle.tasks.specs.declared.table.Draft.{Draft}
-use Rattle.tasks.specs.Tasks.{Task, Table, emptyOn}
-use Rattle.tasks.specs.Tables.{drafted, newDraftRefusal, addRefusal, Adds, NewDraft}
+use Rattle.tasks.specs.Tasks.{emptyOn}
+use Rattle.tasks.specs.Tables.{drafted, newDraftRefusal, Adds, NewDraft}
 use Rattle.sheet.specs.Lines.{AsSheet, AsTask, Misshapen, FirstRefused, LaterRefused}
 use Rattle.sheet.specs.Steps.{FirstSteps, LaterSteps}
 use Rattle.sheet.proofs.Shortened.{shortened, adds-whole}

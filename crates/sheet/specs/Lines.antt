@@ -4,7 +4,7 @@ use mathlib.Core.Path.{_≡_}
 use mathlib.Core.Logic.{_⊎_}
 use mathlib.Core.List.{List, _++_}
 use Prim.Native.Nat.{ℕ}
-use Rattle.std.specs.declared.option.Option.the-variants.{Some, None}
+use Rattle.std.specs.declared.option.Option.the-variants.{Some}
 use Rattle.grammar.specs.Forms.{Form, Lawful, line, IsNumber}
 use Rattle.reader.specs.Lines.{RefusedLine}
 use Rattle.fields.specs.Wanted.{value, sheetForm, Written, taskForm, IsTask, valuesOf}

@@ -1,8 +1,8 @@
 -- The rules of a table as facts, and that a new table and a granted task keep them. Assumes nothing.
-use mathlib.Core.Path.{_≡_, refl, sym, ap, subst, _∙_}
-use mathlib.Core.Bool.{Bool, true, false, cond, not, _&&_}
+use mathlib.Core.Path.{_≡_, refl, ap, _∙_}
+use mathlib.Core.Bool.{true, false, cond, not}
 use mathlib.Core.List.{List, [], _∷_, map}
-use Prim.Native.Nat.{ℕ, _+_, _≤_, _<_}
+use Prim.Native.Nat.{ℕ, _≤_, _<_}
 use native.Mathlib.Omega.{arith}
 use lib.Dec.{leb, ltb}
 use lib.ListN.{length}
@@ -12,8 +12,7 @@ use Rattle.std.proofs.shelf.Ways.{tells}
 use Rattle.std.specs.declared.option.Option.{Option}
 use Rattle.std.specs.declared.option.Option.the-variants.{Some, None}
 use Rattle.span.specs.Spans.{spanOf, spanFrom, Positive}
-use Rattle.tasks.specs.Refusals.{firstOf}
-use Rattle.tasks.specs.Tasks.{Task, Table, between, every, inRange, pointsMatch, hasId, distinct, ordered, periods, inserted, withTask, emptyOn, tableRules}
+use Rattle.tasks.specs.Tasks.{Task, Table, between, every, inRange, hasId, distinct, ordered, periods, inserted, withTask, emptyOn, tableRules}
 use Rattle.tasks.specs.declared.task.Task.{Task as Stored}
 use Rattle.tasks.specs.Stored.{tasksOf}
 use Rattle.tasks.specs.Tables.{addRefusal}

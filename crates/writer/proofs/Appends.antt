@@ -7,9 +7,9 @@ use native.Mathlib.Nat.{mod-eq-of-lt}
 use native.Mathlib.Omega.{arith}
 use borrow.Author.Tests.{lt-true}
 use lib.Dec.{ltb, lit<}
-use lib.ListN.{length, take, getD, length-append}
+use lib.ListN.{length, length-append}
 use Rattle.std.specs.Written.{decimal}
-use Rattle.std.proofs.shelf.Lists.{take-more, length-take-le, length-push}
+use Rattle.std.proofs.shelf.Lists.{length-push}
 use Rattle.std.proofs.shelf.Decimals.{decimal-digit, decimal-step, length-decimal-le}
 
 -- a push with room appends

@@ -1,6 +1,5 @@
-use mathlib.Core.Path.{_≡_, refl, sym, ap, _∙_}
+use mathlib.Core.Path.{_≡_, refl, ap}
 use mathlib.Core.Logic.{_⊎_, inl, inr, ⊎-elim}
-use Rattle.tasks.specs.declared.refusal.Refusal.{Refusal}
 use Rattle.tasks.specs.Tables.{drafted, sealed}
 use Rattle.sheet.specs.Lines.{FirstRefused}
 use Rattle.sheet.specs.Sheets.{RefusedAfter, SheetRefused}

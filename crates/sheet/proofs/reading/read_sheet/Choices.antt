@@ -1,6 +1,5 @@
 use Prim.Native.Nat.{_-_}
 use lib.ListN.{length}
-use mathlib.Core.Path.{_≡_}
 use Rattle.tasks.specs.Tables.{drafted}
 use Rattle.sheet.proofs.Granting.{Reached}
 use Rattle.sheet.proofs.reading.read_sheet.Given as given

@@ -1,10 +1,10 @@
 use borrow.Author.Tests.{lt-ltb, le-leb}
 use mathlib.Core.Path.{_≡_, sym, ap, _∙_}
 use mathlib.Core.Bool.{true, cond}
-use mathlib.Core.List.{List, [], _∷_, _++_, append-assoc}
-use Prim.Native.Nat.{_+_, _<_, _≤_}
+use mathlib.Core.List.{[], _∷_, _++_, append-assoc}
+use Prim.Native.Nat.{_+_}
 use native.Mathlib.Omega.{arith}
-use lib.ListN.{length, take, getD, length-append}
+use lib.ListN.{length, take, length-append}
 use Rattle.std.proofs.shelf.Lists.{length-take-le, take-more, take-all}
 use Rattle.bounded.specs.Lists.{listOf}
 use Rattle.bounded.proofs.list.Bounded.extend_from_slice.Needs as need

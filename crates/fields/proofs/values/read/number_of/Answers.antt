@@ -5,7 +5,7 @@ use lib.ListN.{drop}
 use Rattle.std.proofs.shelf.Lists.{at-drop-more, at-drop-all}
 use Rattle.std.proofs.shelf.Elements.{all-getD}
 use Rattle.grammar.specs.Forms.{IsDigit}
-use Rattle.fields.specs.Wanted.{valueFrom, value}
+use Rattle.fields.specs.Wanted.{valueFrom}
 use Rattle.fields.proofs.Digits.{too-long, zero-first, is-number, ten-more, ten-room}
 use Rattle.fields.proofs.values.read.number_of.Needs as need
 use Rattle.fields.proofs.values.read.number_of.Needs.{else-digits-gt1·by·then-digits-gt1·else-digits-eq48, else-digits-gt1·by·else-digits-gt1}

@@ -3,7 +3,7 @@ use mathlib.Core.Bool.{true, false, cond}
 use mathlib.Core.List.{List, map}
 use Prim.Native.Nat.{ℕ, _<_, _≤_}
 use native.Mathlib.Omega.{arith}
-use borrow.Author.Tests.{lt-ltb, le-leb}
+use borrow.Author.Tests.{lt-ltb}
 use lib.Dec.{ltb}
 use lib.ListN.{length}
 use Rattle.bounded.specs.Lists.{listOf}
@@ -14,9 +14,9 @@ use Rattle.std.specs.declared.option.Option.the-variants.{Some, None}
 use Rattle.span.specs.Spans.{spanOf, SpanWithin, Positive}
 use Rattle.span.proofs.Answered.{none-above}
 use Rattle.tasks.specs.declared.task.Task.{Task as Stored}
-use Rattle.tasks.specs.Tasks.{Table, inRange, every, hasId, periods, inserted, withTask, tableRules}
+use Rattle.tasks.specs.Tasks.{inRange, every, hasId, periods, inserted, tableRules}
 use Rattle.tasks.specs.Places.{placeFor}
-use Rattle.tasks.specs.Stored.{tasksOf, tableOf, proposed}
+use Rattle.tasks.specs.Stored.{tasksOf, proposed}
 use Rattle.tasks.specs.Tables.{drafted, addRefusal}
 use Rattle.tasks.specs.declared.refusal.Refusal.the-variants.{LongSpan}
 use Rattle.tasks.proofs.Order.{place-le, put-in, length-stored, every-inserted}

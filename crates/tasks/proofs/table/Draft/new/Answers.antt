@@ -1,5 +1,4 @@
-use mathlib.Core.Path.{_≡_, refl, ap, _∙_}
-use mathlib.Core.Bool.{true}
+use mathlib.Core.Path.{refl, ap, _∙_}
 use Rattle.tasks.specs.Tasks.{tableRules}
 use Rattle.tasks.specs.Stored.{tableOf}
 use Rattle.tasks.proofs.Rules.{rules-empty}

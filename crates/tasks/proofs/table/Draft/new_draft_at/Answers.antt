@@ -1,4 +1,4 @@
-use mathlib.Core.Path.{_≡_, sym, ap, _∙_}
+use mathlib.Core.Path.{sym, ap, _∙_}
 use Rattle.tasks.specs.Tasks.{tableRules}
 use Rattle.tasks.specs.Stored.{tableOf}
 use Rattle.tasks.proofs.Rules.{rules-empty}

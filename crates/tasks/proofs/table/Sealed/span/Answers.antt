@@ -1,6 +1,6 @@
-use mathlib.Core.Path.{_≡_, sym, ap, subst, _∙_}
+use mathlib.Core.Path.{ap, subst, _∙_}
 use native.Mathlib.Omega.{arith}
-use Rattle.span.specs.Spans.{spanOf, SpanWithin, LeastCommonMultiple}
+use Rattle.span.specs.Spans.{SpanWithin}
 use Rattle.span.proofs.Answered.{none-above}
 use Rattle.std.specs.declared.option.Option.the-variants.{Some, None}
 use Rattle.tasks.specs.Tasks.{periods}
