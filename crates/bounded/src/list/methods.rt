@@ -35,7 +35,7 @@ impl<T: Copy, const N: usize> Bounded<T, N> {
         ensures value { λ r. ⌜ r ≡ length (listOf (now (self .entry))) ⌝ }
         ensures bound { λ r. ⌜ r ≤ N ⌝ }
     {
-        self.len
+        self.as_slice().len()
     }
 
     pub fn as_slice(&self) -> &[T]
@@ -46,11 +46,11 @@ impl<T: Copy, const N: usize> Bounded<T, N> {
         &all[0..self.len]
     }
 
-    pub fn at(&self, i: usize) -> T
-        requires { ⌜ i < length (listOf (now self)) ⌝ }
-        ensures { λ r. ⌜ ((d : T) → r ≡ getD (listOf (now (self .entry))) i d) ⌝ }
+    pub fn at(&self, index: usize) -> T
+        requires { ⌜ index < length (listOf (now self)) ⌝ }
+        ensures { λ r. ⌜ ((d : T) → r ≡ getD (listOf (now (self .entry))) index d) ⌝ }
     {
-        self.items[i]
+        self.items[index]
     }
 
     pub fn push(&mut self, x: T) -> bool
@@ -99,11 +99,11 @@ impl<T: Copy, const N: usize> Bounded<T, N> {
         true
     }
 
-    pub fn set(&mut self, at: usize, x: T)
-        requires { ⌜ at < length (listOf (now self)) ⌝ }
-        ensures { λ _. ⌜ listOf (now (self .exit)) ≡ set (listOf (now (self .entry))) at x ⌝ }
+    pub fn set(&mut self, place: usize, x: T)
+        requires { ⌜ place < length (listOf (now self)) ⌝ }
+        ensures { λ _. ⌜ listOf (now (self .exit)) ≡ set (listOf (now (self .entry))) place x ⌝ }
     {
-        self.items[at] = x;
+        self.items[place] = x;
     }
 
     pub fn truncate(&mut self, len: usize)
