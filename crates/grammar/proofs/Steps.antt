@@ -36,9 +36,6 @@ is-digit c h = (grind (arith, tells), grind (arith, tells))
 pub letter-kind : (c : ℕ) → IsLetter c → kind c ≡ kinds.Letter
 letter-kind c (a, b) = grind (arith, tells)
 
-pub digit-kind : (c : ℕ) → 49 ≤ c → c ≤ 57 → kind c ≡ kinds.Digit
-digit-kind c a b = grind (arith, tells)
-
 pub figure-kind : (c : ℕ) → IsDigit c → (kind c ≡ kinds.Zero) ⊎ (kind c ≡ kinds.Digit)
 figure-kind c (a, b) = cases (eqb c 48) refl
   where

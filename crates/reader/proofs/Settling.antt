@@ -31,7 +31,7 @@ use Rattle.reader.specs.Progress.{refused, wordRefusal, numberRefusal, Tells, 
 use Rattle.reader.specs.declared.reader.Reader.{Reader}
 use Rattle.reader.specs.declared.reader.TokenAt.{TokenAt}
 use Rattle.reader.specs.declared.reader.Token.the-variants as tokens
-use Rattle.reader.proofs.Stalled.{went-none, went-then, went-token, run-then, stuck-later, stuck-here, stuck-strange, stuck-token, item-undone, word-undone, nought-undone, digits-undone, heads, no-space, no-close}
+use Rattle.reader.proofs.Stalled.{went-then, went-token, run-then, stuck-later, stuck-here, stuck-strange, stuck-token, item-undone, word-undone, nought-undone, digits-undone, heads, no-space, no-close}
 
 -- a run that is stuck at a byte after a front of the list
 stuck-at : (s t : State) (xs after : List ℕ) (n start : ℕ) {y : Refusal} → n < length xs → run s (take n xs) ≡ Some t → (t ≡ Done → ⊥) → goes t (kind (getD xs n 0)) ≡ None → y ≡ refusalFor (faultOf t (kind (getD xs n 0)) (start + n)) → Stuck s (xs ++ after) start y
@@ -270,9 +270,6 @@ item-deep d {a} {b} {t} h p is =
     stuck-here (Item d) (rest a) (a .position) (item-undone d) (subst (λ l. Tells (Item d) l (a .position) (DeepForm (t .at))) (sym (w .bytes)) (none, ap DeepForm (p .at)))
 
 -- items one after another
-
-pub items-none : (d : ℕ) (a : Reader) → ReadItems d a a
-items-none d a = record { bs = []; went = went-none a; runs = λ s h. (s, refl, h) }
 
 pub items-more : {d : ℕ} {a b e f : Reader} {t : TokenAt} → ReadItems d a b → Past b t e → t .token ≡ tokens.Space → ReadItem d e f → ReadItems d a f
 items-more {d} {a} {b} {e} {f} r p is i =
