@@ -159,6 +159,8 @@ def main(args):
     for f in rt:
         text = f.read_text()
         new = "".join(turn(p, False) if code else p for code, p in clause_parts(text))
+        # where a trait declares a member, a colon stands right behind its name
+        new = re.sub(r"(\bghost )(\w+)(?=:)", lambda m: m.group(1) + rows.get(m.group(2), m.group(2)), new)
         if new != text:
             f.write_text(new)
     for f in [root / "README.md"] + sorted((root / "docs").glob("*.md")):

@@ -1,4 +1,6 @@
 // The running cabinet: it is loaded with a cleared plan, and each call does what the machine does.
+#![tactic(auto)]
+
 pub mod cabinet;
 mod jobs;
 mod loading;

@@ -1,4 +1,6 @@
 // Answers each of the sheets in this folder that the arguments name, as `planner` would.
+#![tactic(auto)]
+
 use anyhow::anyhow;
 use press::{MAX_LINE, MAX_SHEET, answer};
 use std::io::{Read, Write};

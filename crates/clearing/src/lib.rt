@@ -1,4 +1,6 @@
 // Clearing: a plan of any origin is accepted exactly if it is lawful under the EDF test.
+#![tactic(auto)]
+
 pub mod cleared;
 pub mod examine;
 mod loads;

@@ -24,7 +24,7 @@ pub trait CoreTest {
     ghost unsound: { (s : Self) (xs : List Entry) → accepts s xs → sound xs ≡ true };
 
     // The limit of an unsound list is 0.
-    ghost unsoundlimit: { (s : Self) (xs : List Entry) (d : ℕ) → sound xs ≡ false → limit s xs d ≡ Some 0 };
+    ghost unsound_limit: { (s : Self) (xs : List Entry) (d : ℕ) → sound xs ≡ false → limit s xs d ≡ Some 0 };
 
     // The limit at an asked deadline out of range is 0.
     ghost outside: { (s : Self) (xs : List Entry) (d : ℕ) → between 1 1000000 d ≡ false → limit s xs d ≡ Some 0 };

@@ -14,10 +14,10 @@ use crate::handover::Handover;
 
 pub trait EdfPile: CoreTest {
     // What the pile accepts, EDF accepts.
-    ghost nolaxer: { (s : Self) (xs : List Entry) → Self.CoreTest.accepts s xs → EdfAccepts xs };
+    ghost no_laxer: { (s : Self) (xs : List Entry) → Self.CoreTest.accepts s xs → EdfAccepts xs };
 
     // The pile's limit is no longer than that of EDF.
-    ghost nolonger: { (s : Self) (xs : List Entry) (d : ℕ) → AtMost (Self.CoreTest.limit s xs d) (edf_limit xs d) };
+    ghost no_longer: { (s : Self) (xs : List Entry) (d : ℕ) → AtMost (Self.CoreTest.limit s xs d) (edf_limit xs d) };
 }
 
 impl EdfPile for Edf {

@@ -1,4 +1,6 @@
 // Core tests: whether a list of entries may share a core, and how long a region of the next task may be.
+#![tactic(auto)]
+
 pub mod cap;
 pub mod core_test;
 pub mod edf;

@@ -1,4 +1,6 @@
 // Examples of the core tests, worked by hand. An entry is written (period, deadline, load).
+#![tactic(auto)]
+
 ghost use Rattle.std.specs.Prelude.{◌≡◌, true};
 ghost use Rattle.coretests.specs.Edf.{EdfAccepts};
 

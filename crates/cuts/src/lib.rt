@@ -1,4 +1,6 @@
 // What cuts make of a task, and which cuts are chosen under a limit.
+#![tactic(auto)]
+
 pub mod best;
 pub mod flags;
 pub mod meaning;

@@ -1,4 +1,6 @@
 // The lines of a sheet that are wanted: whether the bytes of a line are one, and the numbers that it holds.
+#![tactic(auto)]
+
 pub mod values;
 
 pub use values::TaskLine;

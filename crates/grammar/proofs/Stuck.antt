@@ -273,7 +273,7 @@ refuse_long d n p c q start e k h halts =
       };
     }
 
--- a byte that has no step is refused as `faultOf` says
+-- a byte that has no step is refused as `fault_of` says
 pub refuse : (s : State) (p : List ℕ) (c : ℕ) (q : List ℕ) (start : ℕ) → run Start p ≡ Some s → (s ≡ Done → ⊥) → goes s (kind c) ≡ None → Faulty start (p ++ c ∷ q) (fault_of s (kind c) (start + length p))
 refuse Start p c q start e n h = refuse_byte Start p c q start e (halts_at Start p c q e n h) refl
 refuse (Word d m) p c q start e n h = refuse_byte (Word d m) p c q start e (halts_at (Word d m) p c q e n h) refl

@@ -1,4 +1,6 @@
 // The running machine of the cabinet, how its jobs are read from outside, and the law that no unfinished job reaches its deadline.
+#![tactic(auto)]
+
 ghost use Rattle.machine.specs.Agreement.{ReadingAgrees};
 ghost use Rattle.machine.specs.Law.{MachineNeverLate, SameClock};
 ghost use Rattle.machine.specs.Assigning.{LawfulIsSchedulable};

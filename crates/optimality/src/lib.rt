@@ -1,4 +1,6 @@
 // Why planning finds the choice: facts about lawful plans of any table, under any core test that keeps its laws.
+#![tactic(auto)]
+
 ghost use Rattle.optimality.specs.Meanings.{FittingIsByPlace, OneChoice, ChoiceHasChosenCuts, LawfulUnderEdf};
 
 use coretests::{CoreTest, EdfPile};

@@ -1,4 +1,6 @@
 // Reads a sheet of tasks from standard input, and prints the line that tells its table or its refusal.
+#![tactic(auto)]
+
 use anyhow::anyhow;
 use press::{MAX_LINE, MAX_SHEET, answer};
 use std::io::{Read, Write};

@@ -1,4 +1,6 @@
 // The planner: the chosen plan of a sealed table, under any core test.
+#![tactic(auto)]
+
 ghost use Rattle.tasks.specs.Tables.{sealed};
 ghost use Rattle.planning.specs.Planning.{Plans};
 

@@ -1,4 +1,6 @@
 // Plans: rows that give each task of a table its core and its cuts, and the entries that they make for the cores.
+#![tactic(auto)]
+
 pub mod cores;
 pub mod placing;
 pub mod types;

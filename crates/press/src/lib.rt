@@ -1,4 +1,6 @@
 // The calls that the programs make.
+#![tactic(auto)]
+
 ghost use Rattle.press.specs.Answers.{Answers};
 
 use sheet::read_sheet;

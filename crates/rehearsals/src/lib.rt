@@ -1,4 +1,6 @@
 // The calls that the programs make.
+#![tactic(auto)]
+
 ghost use Rattle.tasks.specs.Tables.{sealed};
 ghost use Rattle.rehearsals.specs.Plans.{PlansAndClears};
 ghost use Rattle.rehearsals.specs.Answers.{PlansSheet, Answers};

@@ -1,5 +1,7 @@
 // Reads a sheet of tasks from standard input, plans it under EDF, and runs the plan from clock 0, with every task released
 // whenever the rules grant it. Prints the row of each tick, and for each task the jobs that finished and their longest response.
+#![tactic(auto)]
+
 mod watcher;
 
 use anyhow::anyhow;

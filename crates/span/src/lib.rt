@@ -1,4 +1,6 @@
 // The span of a list of periods: their least common multiple.
+#![tactic(auto)]
+
 ghost use Rattle.std.specs.Prelude.{◌≡◌, ℕ, ◌<◌, ◌≤◌, map, MatchOption};
 ghost use Rattle.span.specs.Spans.{gcd_of, lcm_of, SpanWithin};
 
@@ -7,7 +9,7 @@ pub const MAX_SPAN: u32 = 1_000_000;
 
 // What comes back after a period: a task, an entry, or the period alone.
 pub trait Periodic {
-    ghost periodOf: { Self → ℕ };
+    ghost period_of: { Self → ℕ };
 
     fn period(&self) -> u32
         ensures { result ≡ period_of self.now };

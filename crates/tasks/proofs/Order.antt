@@ -1,6 +1,6 @@
 -- What one more task leaves of the order, the ids and the ranges. Assumes nothing.
 use Rattle.std.proofs.Common.{◌≡◌, ℕ, suc, ◌+◌, ◌≤◌, Bool, true, false, cond, not, ◌||◌, eqb, leb, List, [], ◌∷◌, length, sym, refl, ap, ◌∙◌, arith}
-use Rattle.std.specs.List.{insert as insertedAt}
+use Rattle.std.specs.List.{insert as inserted_at}
 use Rattle.std.proofs.lemmas.Bool.{and_parts, and_from}
 use Rattle.std.proofs.lemmas.Bool.Decides.{nat_tests}
 use Rattle.tasks.specs.declared.task.Task.{Task as Stored}
@@ -15,15 +15,15 @@ place_le d (t ∷ ts) =
     elim (leb t.deadline d) as (λ b. cond b (suc (place_for d (tasks_of ts))) 0 ≤ length (t ∷ ts)) [ true ↦ omega arith | false ↦ omega arith ]
 
 -- put in at its place, a stored task stands where the rule has it
-pub stored_inserted : (x : Stored) (ts : List Stored) → tasks_of (insertedAt ts (place_for x.deadline (tasks_of ts)) x) ≡ inserted (task_of x) (tasks_of ts)
+pub stored_inserted : (x : Stored) (ts : List Stored) → tasks_of (inserted_at ts (place_for x.deadline (tasks_of ts)) x) ≡ inserted (task_of x) (tasks_of ts)
 stored_inserted x [] = refl
 stored_inserted x (t ∷ ts) =
-    elim (leb t.deadline x.deadline) as (λ b. tasks_of (insertedAt (t ∷ ts) (cond b (suc (place_for x.deadline (tasks_of ts))) 0) x) ≡ cond b (task_of t ∷ inserted (task_of x) (tasks_of ts)) (task_of x ∷ task_of t ∷ tasks_of ts))
+    elim (leb t.deadline x.deadline) as (λ b. tasks_of (inserted_at (t ∷ ts) (cond b (suc (place_for x.deadline (tasks_of ts))) 0) x) ≡ cond b (task_of t ∷ inserted (task_of x) (tasks_of ts)) (task_of x ∷ task_of t ∷ tasks_of ts))
     [ true ↦ ap (λ l. task_of t ∷ l) (stored_inserted x ts) | false ↦ refl ]
 
-pub put_in : (x : Stored) (new : Task) (ts : List Stored) (i : ℕ) → task_of x ≡ new → i ≡ place_for new.deadline (tasks_of ts) → tasks_of (insertedAt ts i x) ≡ inserted new (tasks_of ts)
+pub put_in : (x : Stored) (new : Task) (ts : List Stored) (i : ℕ) → task_of x ≡ new → i ≡ place_for new.deadline (tasks_of ts) → tasks_of (inserted_at ts i x) ≡ inserted new (tasks_of ts)
 put_in x new ts i is at =
-    ap (λ n. tasks_of (insertedAt ts n x)) (at ∙ ap (λ (t : Task). place_for t.deadline (tasks_of ts)) (sym is))
+    ap (λ n. tasks_of (inserted_at ts n x)) (at ∙ ap (λ (t : Task). place_for t.deadline (tasks_of ts)) (sym is))
     ∙ stored_inserted x ts ∙ ap (λ t. inserted t (tasks_of ts)) is
 
 pub length_stored : (ts : List Stored) → length (tasks_of ts) ≡ length ts

@@ -1,4 +1,6 @@
 // Tasks, tables of tasks, and every refusal of the product.
+#![tactic(auto)]
+
 pub mod proposal;
 pub mod refusal;
 pub mod table;

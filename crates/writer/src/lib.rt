@@ -1,4 +1,6 @@
 // Lines of text, written into a buffer that the caller lends.
+#![tactic(auto)]
+
 mod lines;
 mod text;
 

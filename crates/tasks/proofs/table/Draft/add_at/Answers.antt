@@ -1,7 +1,7 @@
 use Rattle.std.proofs.Common.{◌≡◌, ℕ, ◌<◌, ◌≤◌, true, false, cond, ltb, List, map, length, Some, None, Option, sym, refl, ap, ◌∙◌, subst, arith, lt-ltb}
 use Rattle.bounded.specs.Lists.{list_of}
 use Rattle.std.proofs.lemmas.Bool.Decides.{nat_tests}
-use Rattle.std.specs.List.{insert as insertedAt}
+use Rattle.std.specs.List.{insert as inserted_at}
 use Rattle.span.specs.Spans.{span_of, SpanWithin, Positive}
 use Rattle.span.proofs.Answered.{none_above}
 use Rattle.tasks.specs.declared.task.Task.{Task as Stored}
@@ -43,7 +43,7 @@ module _ (c : After-insert) where
   put =
       let ts = list_of c.args.self.now.tasks in
       let went : c.insert.result ≡ true = c.insert.ensures.test ∙ lt-ltb (length ts) 24 (omega (arith, room, length_stored ts)) in
-      ap tasks_of (c.insert.ensures.items ∙ ap (λ b. cond b (insertedAt ts c.place-for-place.result c.stored.result) ts) went)
+      ap tasks_of (c.insert.ensures.items ∙ ap (λ b. cond b (inserted_at ts c.place-for-place.result c.stored.result) ts) went)
       ∙ put_in c.stored.result (proposed c.args.task.now) ts c.place-for-place.result c.stored.ensures (c.place-for-place.ensures ∙ ap (place_for c.args.task.now.deadline) (stored_same (goal.at.After-insert c).After-has-id))
 
   fits_in : in_range (proposed c.args.task.now) ≡ true
