@@ -12,8 +12,8 @@ use crate::entry::{Entry, askable_span, sound_span};
 
 // The demand of one entry at t.
 fn demand_of(e: &Entry, t: u64) -> u64
-    requires t_bound { t ≤ 1000000 }
-    requires e_value { in_range e.now ≡ true }
+    requires t_small { t ≤ 1000000 }
+    requires e_in_range { in_range e.now ≡ true }
     ensures value { result ≡ entry_demand t e.now }
     ensures bound { result ≤ 2000000000000000 }
 {
@@ -23,8 +23,8 @@ fn demand_of(e: &Entry, t: u64) -> u64
 
 // The demand of the list at t.
 fn demand_at(list: &[Entry], t: u64) -> u64
-    requires t_bound { t ≤ 1000000 }
-    requires list_value { sound list.now ≡ true }
+    requires t_small { t ≤ 1000000 }
+    requires list_sound { sound list.now ≡ true }
     ensures { result ≡ demand list.now t }
 {
     let mut due = 0;
@@ -37,9 +37,9 @@ fn demand_at(list: &[Entry], t: u64) -> u64
 // A moment up to `top` after which, up to `top`, no slack is below `least`.
 // Where the work of one span is less than the span, span × demand(t) is at most work × t + lead, which grows more slowly than span × t.
 fn last_tight(list: &[Entry], span: u64, least: u64, top: u64) -> u64
-    requires list_value { sound list.now ≡ true }
-    requires span_value { span ≡ span_of (periods list.now) }
-    requires least_bound { least ≤ 1000000 }
+    requires list_sound { sound list.now ≡ true }
+    requires span_whole { span ≡ span_of (periods list.now) }
+    requires least_small { least ≤ 1000000 }
     ensures within { result ≤ top }
     ensures past { (s : ℕ) → result < s → s ≤ top → least + demand list.now s ≤ s }
 {

@@ -12,8 +12,8 @@ use crate::entry::{Entry, is_askable, is_sound};
 
 // The work that an entry of higher priority may ask for before t.
 fn interference_of(e: &Entry, t: u64) -> u64
-    requires t_bound { t ≤ 1000000 }
-    requires e_value { in_range e.now ≡ true }
+    requires t_small { t ≤ 1000000 }
+    requires e_in_range { in_range e.now ≡ true }
     ensures value { result ≡ interference t e.now }
     ensures bound { result ≤ 2000000000000000 }
 {
@@ -23,8 +23,8 @@ fn interference_of(e: &Entry, t: u64) -> u64
 
 // One more than the tolerance of `e` behind the entries before it, or 0 where it has none.
 fn least_not_tolerated(before: &[Entry], e: &Entry) -> u32
-    requires all { All (λ x. in_range x ≡ true) before.now }
-    requires e_value { in_range e.now ≡ true }
+    requires before_in_range { All (λ x. in_range x ≡ true) before.now }
+    requires e_in_range { in_range e.now ≡ true }
     ensures { result ≡ one_more (tolerance before.now e.now) }
 {
     let deadline = e.deadline as u64;
@@ -49,8 +49,8 @@ fn least_not_tolerated(before: &[Entry], e: &Entry) -> u32
 
 // The largest blocking that `e` tolerates behind the entries before it.
 fn tolerance_of(before: &[Entry], e: &Entry) -> Option<u32>
-    requires all { All (λ x. in_range x ≡ true) before.now }
-    requires e_value { in_range e.now ≡ true }
+    requires before_in_range { All (λ x. in_range x ≡ true) before.now }
+    requires e_in_range { in_range e.now ≡ true }
     ensures { result ≡ tolerance before.now e.now }
 {
     least_not_tolerated(before, e).checked_sub(1)

@@ -34,8 +34,8 @@ impl<C: CoreTest> Handover<C> {
 
 // The list with every load raised by h, in the front of an array.
 fn raise_all(list: &[Entry], h: u32) -> [Entry; MAX_ENTRIES]
-    requires list_value { sound list.now ≡ true }
-    requires h_bound { h < 65536 }
+    requires list_sound { sound list.now ≡ true }
+    requires h_small { h < 65536 }
     ensures { take (length list.now) result ≡ raised h list.now }
 {
     let mut all = [Entry {

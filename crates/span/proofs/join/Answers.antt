@@ -8,8 +8,8 @@ use Rattle.span.proofs.join.Goals.{After-gcd}
 joined_is : (c : After-gcd) → c.from-a.result / c.gcd.result * c.from-b.result ≡ lcm_of c.args.span c.args.period
 joined_is c = cc (lcm_is c.args.span c.args.period)
 
-pub nonzero-div-joined : goal.nonzero-div-joined
-nonzero-div-joined c =
+pub nonzero_div-joined : goal.nonzero_div-joined
+nonzero_div-joined c =
     let some : 0 < c.from-b.result = omega arith in
     omega (arith, gcd_some c.from-a.result c.from-b.result some)
 

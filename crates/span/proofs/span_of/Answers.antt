@@ -31,20 +31,20 @@ returns-then-period-eq0 g c =
     let ps = map g.T.Periodic.period_of c.args.items.now in
     inl (subst (Has ps) (sym (here g at) ∙ c.if-period-eq0.true) (has_get_or ps c.loop-item.item-index 0 (within g at)))
 
-pub returns-in-err-span : goal.returns-in-err-span
-returns-in-err-span g c =
-    let at = (goal.at.returns-in-err-span g c).After-period-period in
+pub returns-in_err-span : goal.returns-in_err-span
+returns-in_err-span g c =
+    let at = (goal.at.returns-in_err-span g c).After-period-period in
     let ps = map g.T.Periodic.period_of c.args.items.now in
-    let over = subst (λ p. 1000000 < lcm_of c.loop-item.span p) (here g at) c.in-err-span.ensures in
-    rw c.from-residual.ensures (span_over ps c.loop-item.item-index c.loop-item.span (within g at) c.loop-item.invariant.0 c.loop-item.invariant.3 over)
+    let over = subst (λ p. 1000000 < lcm_of c.loop-item.span p) (here g at) c.in_err-span.ensures in
+    rw c.from_residual.ensures (span_over ps c.loop-item.item-index c.loop-item.span (within g at) c.loop-item.invariant.0 c.loop-item.invariant.3 over)
 
 pub loop-item-preserved : goal.loop-item-preserved
 loop-item-preserved g c =
     let at = (goal.at.loop-item-preserved g c).After-period-period in
     let ps = map g.T.Periodic.period_of c.args.items.now in
     let i = c.loop-item.item-index in
-    let joined = c.in-ok-span.ensures in
-    let is : c.in-ok-span.span ≡ lcm_of c.loop-item.span (get_or ps i 0) = joined.0 ∙ ap (lcm_of c.loop-item.span) (here g at) in
+    let joined = c.in_ok-span.ensures in
+    let is : c.in_ok-span.span ≡ lcm_of c.loop-item.span (get_or ps i 0) = joined.0 ∙ ap (lcm_of c.loop-item.span) (here g at) in
     let some : 0 < get_or ps i 0 = omega (arith, here g at, c.if-period-eq0.false) in (
       omega (arith, is, lcm_some c.loop-item.span (get_or ps i 0) some c.loop-item.invariant.0),
       joined.1,

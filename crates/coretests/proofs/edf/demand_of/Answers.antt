@@ -6,7 +6,7 @@ use Rattle.coretests.proofs.edf.demand_of.Goals as goal
 pub returns : goal.returns
 returns c =
     let e = c.args.e.now in
-    let f = in_range_is e c.requires.1 in
+    let f = in_range_is e c.requires.e_in_range in
     let jobs = (c.args.t + e.period - e.deadline) / e.period in
     record {
       value = refl;

@@ -8,8 +8,8 @@ pub returns : goal.returns
 returns c =
     let xs = c.args.list.now in
     let d = c.args.d in
-    elim c.sound-span.result as (λ o. MatchOption o (sound xs ≡ false) (λ m. (sound xs ≡ true) × (m ≡ span_of (periods xs))) → MatchOption o (askable xs d ≡ false) (λ m. (askable xs d ≡ true) × (m ≡ span_of (periods xs)))) [
+    elim c.sound_span.result as (λ o. MatchOption o (sound xs ≡ false) (λ m. (sound xs ≡ true) × (m ≡ span_of (periods xs))) → MatchOption o (askable xs d ≡ false) (λ m. (askable xs d ≡ true) × (m ≡ span_of (periods xs)))) [
       | None ↦ λ h. and_left _ _ h
-      | Some m ↦ λ h. (and_from _ _ h.0 (sym c.if-not-is-between.ensures), h.1)
+      | Some m ↦ λ h. (and_from _ _ h.0 (sym c.if-not-is_between.ensures), h.1)
     ]
-    c.sound-span.ensures
+    c.sound_span.ensures

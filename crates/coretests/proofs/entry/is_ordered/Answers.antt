@@ -3,22 +3,22 @@ use Rattle.std.proofs.lemmas.List.{at_drop_all}
 use Rattle.coretests.specs.Entries.{ordered_from}
 use Rattle.coretests.specs.Soundness.{ordered_pass, ordered_out, ordered_early}
 use Rattle.coretests.proofs.entry.is_ordered.Goals as goal
-use Rattle.coretests.proofs.entry.is_ordered.Goals.{then-not-in-range-via-then-not-in-range, then-not-in-range-via-else-not-in-range+then-e-last}
+use Rattle.coretests.proofs.entry.is_ordered.Goals.{then-not-in_range-via-then-not-in_range, then-not-in_range-via-else-not-in_range+then-e-last}
 
-pub returns-then-not-in-range : goal.returns-then-not-in-range
-returns-then-not-in-range c =
+pub returns-then-not-in_range : goal.returns-then-not-in_range
+returns-then-not-in_range c =
     let xs = c.args.list.now in
     let i = c.loop-e.e-index in
-    elim c.then-not-in-range.branch [
-      | then-not-in-range-via-then-not-in-range w ↦
-          sym (ordered_out c.loop-e.last xs i c.loop-e-test.true (sym c.in-range.ensures ∙ w.if-not-in-range.true)) ∙ c.loop-e.invariant
-      | then-not-in-range-via-else-not-in-range+then-e-last w ↦
+    elim c.then-not-in_range.branch [
+      | then-not-in_range-via-then-not-in_range w ↦
+          sym (ordered_out c.loop-e.last xs i c.loop-e-test.true (sym c.in_range.ensures ∙ w.if-not-in_range.true)) ∙ c.loop-e.invariant
+      | then-not-in_range-via-else-not-in_range+then-e-last w ↦
           sym (ordered_early c.loop-e.last xs i c.loop-e-test.true w.if-e-last.true) ∙ c.loop-e.invariant
     ]
 
 pub loop-e-preserved : goal.loop-e-preserved
 loop-e-preserved c =
-    ordered_pass c.loop-e.last c.args.list.now c.loop-e.e-index c.loop-e-test.true (sym c.if-not-in-range.ensures) c.if-e-last.false
+    ordered_pass c.loop-e.last c.args.list.now c.loop-e.e-index c.loop-e-test.true (sym c.if-not-in_range.ensures) c.if-e-last.false
     ∙ c.loop-e.invariant
 
 pub returns : goal.returns

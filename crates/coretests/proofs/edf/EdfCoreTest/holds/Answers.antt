@@ -7,10 +7,10 @@ use Rattle.coretests.proofs.edf.EdfCoreTest.holds.Goals as goal
 pub loop-e-init : goal.loop-e-init
 loop-e-init c = (sym (demand-none c.moments.t), omega arith)
 
-pub demand-of-due-requires : goal.demand-of-due-requires
-demand-of-due-requires c =
+pub demand_of-due-requires : goal.demand_of-due-requires
+demand_of-due-requires c =
     let s = c.in-Some.ensures in
-    (omega (arith, (sound_is c.args.list.now s.0).spanned), in_range_from _ (in_range_at c.args.list.now c.loop-e.e-index s.0 c.loop-e-test.true))
+    record { t_small = omega (arith, (sound_is c.args.list.now s.0).spanned); e_in_range = in_range_from _ (in_range_at c.args.list.now c.loop-e.e-index s.0 c.loop-e-test.true) }
 
 pub loop-e-preserved : goal.loop-e-preserved
 loop-e-preserved c =

@@ -21,21 +21,21 @@ limit_is : (xs : List Entry) (d first : ℕ) → askable xs d ≡ true → 0 < l
 limit_is xs d first h l is =
     ap (λ n. least (slack xs) n (d - n)) is ∙ sym (guard_open xs d (least_slack xs d) h ∙ least_slack_is xs d l)
 
-pub returns-in-default : goal.returns-in-default
-returns-in-default c = sym (guard_closed c.args.list.now c.args.d (least_slack c.args.list.now c.args.d) c.in-default.ensures)
+pub returns-in_default : goal.returns-in_default
+returns-in_default c = sym (guard_closed c.args.list.now c.args.d (least_slack c.args.list.now c.args.d) c.in_default.ensures)
 
-pub returns-in-err-first : goal.returns-in-err-first
-returns-in-err-first c =
+pub returns-in_err-first : goal.returns-in_err-first
+returns-in_err-first c =
     let xs = c.args.list.now in
     let d = c.args.d in
-    c.from-residual.ensures ∙ sym (guard_open xs d (least_slack xs d) c.in-Some.ensures.0 ∙ least_slack-none xs d c.in-err-first.ensures.item.3)
+    c.from_residual.ensures ∙ sym (guard_open xs d (least_slack xs d) c.in-Some.ensures.0 ∙ least_slack-none xs d c.in_err-first.ensures.item.3)
 
 pub returns-then-last-first : goal.returns-then-last-first
 returns-then-last-first c =
     let xs = c.args.list.now in
     let d = c.args.d in
-    let first = c.in-ok-first.field-0.now.deadline in
-    let item = c.in-ok-first.ensures.item.3 in
+    let first = c.in_ok-first.field-0.now.deadline in
+    let item = c.in_ok-first.ensures.item.3 in
     let h = c.in-Some.ensures.0 in
     let over : d - first ≡ 0 = omega (arith, (asked xs d h).0) in
     sym (ap (least (slack xs) first) over) ∙ limit_is xs d first h item.0 (ap (λ e. e.deadline) (item.1 blank))
@@ -44,23 +44,23 @@ pub moments-init : goal.moments-init
 moments-init c =
     let xs = c.args.list.now in
     let d = c.args.d in
-    let first = c.in-ok-first.field-0.now.deadline in
-    let best = c.saturating-sub-best.result in
-    let r = c.last-tight-t.result in
-    let item = c.in-ok-first.ensures.item.3 in
+    let first = c.in_ok-first.field-0.now.deadline in
+    let best = c.saturating_sub-best.result in
+    let r = c.last_tight-t.result in
+    let item = c.in_ok-first.ensures.item.3 in
     let is : first ≡ (get_or xs 0 blank).deadline = ap (λ e. e.deadline) (item.1 blank) in
     let h = c.in-Some.ensures.0 in
     let range = asked xs d h in
     let low : 1 ≤ first = omega (arith, (in_range_at xs 0 (ok xs d h) item.0).deadline_low) in
-    let best-is : best ≡ slack xs first = c.saturating-sub-best.ensures ∙ ap (λ n. first - n) c.demand-at.ensures in
-    let past : (s : ℕ) → r < s → s ≤ d - 1 → best ≤ slack xs s = λ s u v. omega (arith, c.last-tight-t.ensures.past s u v) in
+    let best-is : best ≡ slack xs first = c.saturating_sub-best.ensures ∙ ap (λ n. first - n) c.demand_at.ensures in
+    let past : (s : ℕ) → r < s → s ≤ d - 1 → best ≤ slack xs s = λ s u v. omega (arith, c.last_tight-t.ensures.past s u v) in
     let whole : d - 1 + 1 - first ≡ d - first = omega arith in
     let member : AtMost (least (slack xs) first (d - first)) (Some best) =
     rw best-is (least_at (slack xs) first (d - first) first (omega arith) (omega arith)) in (
       low,
-      omega (arith, c.last-tight-t.ensures.within),
+      omega (arith, c.last_tight-t.ensures.within),
       omega arith,
-      slack_skip xs first r (d - 1) best c.last-tight-t.ensures.within past
+      slack_skip xs first r (d - 1) best c.last_tight-t.ensures.within past
           ∙ ap (λ n. lesser (Some best) (least (slack xs) first n)) whole
           ∙ lesser_member best (least (slack xs) first (d - first)) member
           ∙ limit_is xs d first h item.0 is,
@@ -69,10 +69,10 @@ moments-init c =
 pub loop-x-init : goal.loop-x-init
 loop-x-init c = (sym (demand-none c.moments.t), omega arith)
 
-pub demand-of-requires : goal.demand-of-requires
-demand-of-requires c =
+pub demand_of-requires : goal.demand_of-requires
+demand_of-requires c =
     let xs = c.args.list.now in
-    (c.moments.invariant.1, in_range_from _ (in_range_at xs c.loop-x.x-index (ok xs c.args.d c.in-Some.ensures.0) c.loop-x-test.true))
+    record { t_small = c.moments.invariant.1; e_in_range = in_range_from _ (in_range_at xs c.loop-x.x-index (ok xs c.args.d c.in-Some.ensures.0) c.loop-x-test.true) }
 
 pub loop-x-preserved : goal.loop-x-preserved
 loop-x-preserved c =
@@ -80,7 +80,7 @@ loop-x-preserved c =
 
 pub returns-then-t-first : goal.returns-then-t-first
 returns-then-t-first c =
-    let first = c.in-ok-first.field-0.now.deadline in
+    let first = c.in_ok-first.field-0.now.deadline in
     let over : c.moments.t + 1 - first ≡ 0 = omega arith in
     sym (ap (λ n. lesser (Some c.moments.best) (least (slack c.args.list.now) first n)) over) ∙ c.moments.invariant.3
 
@@ -89,7 +89,7 @@ returns-then-due-t c =
     let xs = c.args.list.now in
     let i = c.loop-x.x-index in
     let t = c.moments.t in
-    let first = c.in-ok-first.field-0.now.deadline in
+    let first = c.in_ok-first.field-0.now.deadline in
     let full : t - demand xs t ≡ 0 = omega (arith, demand_next xs t i c.loop-x-test.true, demand_part xs t (i + 1)) in
     sym (ap (lesser (Some c.moments.best)) (least_zero (slack xs) first (t + 1 - first) t c.if-t-first.false (omega arith) full) ∙ lesser_zero (Some c.moments.best))
     ∙ c.moments.invariant.3
@@ -100,12 +100,12 @@ moments-preserved c =
     let t = c.moments.t in
     let due = c.loop-x.due in
     let best = c.min-best.result in
-    let r = c.saturating-sub-t.result in
-    let first = c.in-ok-first.field-0.now.deadline in
+    let r = c.saturating_sub-t.result in
+    let first = c.in_ok-first.field-0.now.deadline in
     let sure = ok xs c.args.d c.in-Some.ensures.0 in
     let is : due ≡ demand xs t = c.loop-x.invariant.0 ∙ demand_whole xs t c.loop-x.x-index c.loop-x-test.false in
     let best-is : best ≡ min c.moments.best (t - due) = c.min-best.ensures in
-    let r-is : r ≡ best + due - 1 = c.saturating-sub-t.ensures in
+    let r-is : r ≡ best + due - 1 = c.saturating_sub-t.ensures in
     let down : r ≤ t = omega (arith, c.loop-x.invariant.1) in (
       c.moments.invariant.0,
       omega (arith, c.moments.invariant.1),

@@ -4,5 +4,5 @@ use Rattle.tasks.specs.Stored.{table_of}
 use Rattle.tasks.proofs.Rules.{rules_empty}
 use Rattle.tasks.proofs.table.Draft.new_draft_at.Goals as goal
 
-pub invariant-of-self : goal.invariant-of-self
-invariant-of-self c = (ap (λ l. table_rules (table_of c.args.cores l)) c.clear.ensures ∙ rules_empty c.args.cores (sym c.if-not-is-between.ensures), tt)
+pub invariant_of-self : goal.invariant_of-self
+invariant_of-self c = record { rules = ap (λ l. table_rules (table_of c.args.cores l)) c.clear.ensures ∙ rules_empty c.args.cores (sym c.if-not-is_between.ensures) }
