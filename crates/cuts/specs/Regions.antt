@@ -4,5 +4,4 @@ use Rattle.tasks.specs.Cuts.{regions_from}
 
 -- the regions of a row of blocks
 abbrev pub regions_of : List ℕ → List ℕ → List Bool → List ℕ
-regions_of [] points cuts = []
-regions_of (b ∷ bs) points cuts = regions_from b bs points cuts
+regions_of bs points cuts = elim bs as (λ x. List ℕ) [ [] ↦ [] | b ∷ rest ↦ regions_from b rest points cuts ]

@@ -1,8 +1,23 @@
 ghost use Rattle.std.specs.Prelude.{◌≡◌, ◌+◌, ◌≤◌, [], ◌++◌, length, decimal};
+ghost use Rattle.bounded.specs.Lists.{list_of};
 ghost use Rattle.writer.specs.Texts.{text_of, Writes};
 
 use bounded::Bounded;
 use tasks::Refusal;
+
+// A number of 64 bits has at most so many digits.
+const MAX_DIGITS: usize = 20;
+
+// Appends n in base ten, with no leading zero.
+fn push_digits(digits: &mut Bounded<u8, MAX_DIGITS>, n: u64)
+    requires { length (list_of digits.old) + length (decimal n) ≤ 20 }
+    ensures { list_of digits.new ≡ list_of digits.old ++ decimal n }
+{
+    if n >= 10 {
+        push_digits(digits, n / 10);
+    }
+    digits.push(b'0' + (n % 10) as u8);
+}
 
 // A text of at most N bytes that grows at its end.
 #[derive(Drop)]
@@ -34,17 +49,9 @@ impl<const N: usize> Text<N> {
         ensures text { text_of self.new ≡ text_of self.old ++ decimal n }
         ensures len { length (text_of self.new) ≤ length (text_of self.old) + 20 }
     {
-        self.digits(n);
-    }
-
-    fn digits(&mut self, n: u64)
-        requires { length (text_of self.old) + length (decimal n) ≤ N }
-        ensures { text_of self.new ≡ text_of self.old ++ decimal n }
-    {
-        if n >= 10 {
-            self.digits(n / 10);
-        }
-        self.bytes.push(b'0' + (n % 10) as u8);
+        let mut digits = Bounded::new(0);
+        push_digits(&mut digits, n);
+        self.word(digits.as_slice());
     }
 
     // Writes the text over the front of `out`, or refuses where `out` is shorter.

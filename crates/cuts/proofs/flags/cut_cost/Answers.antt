@@ -7,28 +7,28 @@ use Rattle.cuts.proofs.Regions.{cost_cut, cost-on}
 use Rattle.cuts.proofs.flags.cut_cost.Goals as goal
 use Rattle.cuts.proofs.flags.cut_cost.Goals.{then-cuts-j, else-cuts-j}
 
-pub overflow-add-cost : goal.overflow-add-cost
-overflow-add-cost c =
-    let ps = c.as-slice-points.result.now in
+pub overflow_add-cost : goal.overflow_add-cost
+overflow_add-cost c =
+    let ps = c.as_slice-points.result.now in
     let fs = c.args.cuts.now in
-    let whole = ap (λ ns. cost_at ns fs) c.as-slice-points.ensures.value in
+    let whole = ap (λ ns. cost_at ns fs) c.as_slice-points.ensures.value in
     omega (arith, cut_cost_bound (task_of c.args.task.now) fs c.requires, whole, cost_cut ps fs c.loop-j.j c.loop-j-test.true (omega arith) c.if-cuts-j.true, c.loop-j.invariant)
 
 pub loop-j-preserved : goal.loop-j-preserved
 loop-j-preserved c =
-    let ps = c.as-slice-points.result.now in
+    let ps = c.as_slice-points.result.now in
     let fs = c.args.cuts.now in
     let in-flags : c.loop-j.j < length fs = omega arith in
     elim c.if-cuts-j.branch [
-      | then-cuts-j w ↦ omega (arith, cost_cut ps fs c.loop-j.j c.loop-j-test.true in-flags w.if-cuts-j.true, c.loop-j.invariant, w.cost_is)
-      | else-cuts-j w ↦ omega (arith, cost-on ps fs c.loop-j.j c.loop-j-test.true in-flags w.if-cuts-j.false, c.loop-j.invariant, w.cost_is)
+      | then-cuts-j w ↦ omega (arith, cost_cut ps fs c.loop-j.j c.loop-j-test.true in-flags w.if-cuts-j.true, c.loop-j.invariant, w.cost-is)
+      | else-cuts-j w ↦ omega (arith, cost-on ps fs c.loop-j.j c.loop-j-test.true in-flags w.if-cuts-j.false, c.loop-j.invariant, w.cost-is)
     ]
 
 pub returns : goal.returns
 returns c =
-    let ps = c.as-slice-points.result.now in
+    let ps = c.as_slice-points.result.now in
     let fs = c.args.cuts.now in
-    let whole = ap (λ ns. cost_at ns fs) c.as-slice-points.ensures.value in
+    let whole = ap (λ ns. cost_at ns fs) c.as_slice-points.ensures.value in
     let none = at_drop_all (λ ns. cost_at ns (drop c.loop-j.j fs)) ps c.loop-j.j c.loop-j-test.false in
     record {
       value = omega (arith, whole, none, c.loop-j.invariant);

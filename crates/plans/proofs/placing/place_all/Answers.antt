@@ -16,10 +16,10 @@ pub loop-task-init : goal.loop-task-init
 loop-task-init c =
     let table = sealed c.args.table.now in
     let rows = c.args.rows.now in
-    let it = c.into-iter-task-iterator.ensures.into-iter-gives in
+    let it = c.into_iter-task-iterator.ensures.into_iter_gives in
     let tasks = ap (λ z. iter_rest (zip_first z)) it ∙ ap iter_rest c.zip-task-items.ensures.first ∙ c.iter.ensures.rest in
     let rest = ap (λ z. iter_rest (zip_second z)) it ∙ c.zip-task-items.ensures.second.0 in
-    subst (λ l. Placing table rows l (tasks_of (iter_rest (zip_first c.into-iter-task-iterator.result))) (iter_rest (zip_second c.into-iter-task-iterator.result))) (sym c.new-all.ensures)
+    subst (λ l. Placing table rows l (tasks_of (iter_rest (zip_first c.into_iter-task-iterator.result))) (iter_rest (zip_second c.into_iter-task-iterator.result))) (sym c.new-all.ensures)
     (placing_at table rows [] _ _ _ _ (sym tasks) (sym rest) (subst (λ l. Placing table rows [] l rows) (sym c.tasks.ensures) (placing_start table rows c.args.table.now.rules)))
 
 module _ (c : In-Some) where
@@ -36,17 +36,17 @@ module _ (c : In-Some) where
   in_range_lem : in_range (task_of c.in-Some.task.now) ≡ true
   in_range_lem = placing_range table c.args.rows.now (list_of c.loop-task.all) (task_of c.in-Some.task.now) (tasks_of (iter_rest (zip_first c.next.new.self))) c.in-Some.row.now (iter_rest (zip_second c.next.new.self)) placing
 
-pub nonzero-div-weight : goal.nonzero-div-weight
-nonzero-div-weight c = in_range_period (task_of c.in-Some.task.now) (in_range_lem c)
+pub nonzero_div-weight : goal.nonzero_div-weight
+nonzero_div-weight c = in_range_period (task_of c.in-Some.task.now) (in_range_lem c)
 
-pub cut-cost-price-requires : goal.cut-cost-price-requires
-cut-cost-price-requires c = in_range_lem (goal.at.cut-cost-price-requires c).In-Some
+pub cut_cost-price-requires : goal.cut_cost-price-requires
+cut_cost-price-requires c = in_range_lem (goal.at.cut_cost-price-requires c).In-Some
 
 pub placed-requires : goal.placed-requires
 placed-requires c =
     record {
       range = in_range_lem (goal.at.placed-requires c).In-Some;
-      cheap = c.cut-cost-price.ensures.bound;
+      cheap = c.cut_cost-price.ensures.bound;
       light = weight_light (sealed c.args.table.now) c.span-span.result c.in-Some.task.now.period c.args.table.now.rules c.span-span.ensures.value;
     }
 
@@ -58,7 +58,7 @@ loop-task-preserved c =
     let ts = tasks_of (iter_rest (zip_first c.next.new.self)) in
     let rs = iter_rest (zip_second c.next.new.self) in
     let done = list_of c.loop-task.all in
-    let is = c.placed.ensures ∙ place_with (table at) t r c.span-span.result c.cut-cost-price.result c.span-span.ensures.value c.cut-cost-price.ensures.value in
+    let is = c.placed.ensures ∙ place_with (table at) t r c.span-span.result c.cut_cost-price.result c.span-span.ensures.value c.cut_cost-price.ensures.value in
     let more = pushed done (list_of c.push.new.self) c.placed.result 24 c.push.result c.push.ensures.items c.push.ensures.test (placing_room (table at) c.args.rows.now done t ts r rs (placing at)) in
     subst (λ l. Placing (table at) c.args.rows.now l ts rs) (sym (more ∙ ap (λ p. done ++ p ∷ []) is)) (placing_more (table at) c.args.rows.now done t ts r rs (placing at))
 

@@ -7,20 +7,20 @@ use Rattle.fields.proofs.Digits.{too_long, zero_first, is_number, ten_more, ten_
 use Rattle.fields.proofs.values.read.number_of.Goals as goal
 use Rattle.fields.proofs.values.read.number_of.Goals.{else-digits-gt1-via-then-digits-gt1+else-digits-eq48, else-digits-gt1-via-else-digits-gt1}
 
-pub returns-then-digits-gt-MAX-DIGITS : goal.returns-then-digits-gt-MAX-DIGITS
-returns-then-digits-gt-MAX-DIGITS c = too_long c.args.digits.now c.if-digits-gt-MAX-DIGITS.true
+pub returns-then-digits-gt-MAX_DIGITS : goal.returns-then-digits-gt-MAX_DIGITS
+returns-then-digits-gt-MAX_DIGITS c = too_long c.args.digits.now c.if-digits-gt-MAX_DIGITS.true
 
 pub returns-then-digits-eq48 : goal.returns-then-digits-eq48
 returns-then-digits-eq48 c = zero_first c.args.digits.now c.if-digits-gt1.true c.if-digits-eq48.true
 
-pub overflow-sub-digit : goal.overflow-sub-digit
-overflow-sub-digit c = (All-get_or IsDigit c.args.digits.now c.loop-digit.digit-index 0 (omega arith) c.requires.1).0
+pub overflow_sub-digit : goal.overflow_sub-digit
+overflow_sub-digit c = (All-get_or IsDigit c.args.digits.now c.loop-digit.digit-index 0 (omega arith) c.requires.1).0
 
-pub overflow-mul-value : goal.overflow-mul-value
-overflow-mul-value c = let r = ten_room c.loop-digit.digit-index (omega arith) in omega (arith, c.loop-digit.invariant.1)
+pub overflow_mul-value : goal.overflow_mul-value
+overflow_mul-value c = let r = ten_room c.loop-digit.digit-index (omega arith) in omega (arith, c.loop-digit.invariant.1)
 
-pub overflow-add-value : goal.overflow-add-value
-overflow-add-value c =
+pub overflow_add-value : goal.overflow_add-value
+overflow_add-value c =
     let r = ten_room c.loop-digit.digit-index (omega arith) in
     let digit = All-get_or IsDigit c.args.digits.now c.loop-digit.digit-index 0 (omega arith) c.requires.1 in
     omega (arith, c.loop-digit.invariant.1, c.from.ensures, digit.1)

@@ -7,6 +7,6 @@ pub returns : goal.returns
 returns g c =
     let was = text_of c.args.self.now in
     let bs = c.args.bytes.now in
-    let went : c.extend-from-slice.result ≡ true = c.extend-from-slice.ensures.test ∙ le-leb _ _ c.requires in
-    let is = c.extend-from-slice.ensures.items ∙ ap (λ b. cond b (was ++ bs) was) went in
+    let went : c.extend_from_slice.result ≡ true = c.extend_from_slice.ensures.test ∙ le-leb _ _ c.requires in
+    let is = c.extend_from_slice.ensures.items ∙ ap (λ b. cond b (was ++ bs) was) went in
     record { text = is; len = grown was _ bs is }

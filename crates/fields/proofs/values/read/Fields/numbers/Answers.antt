@@ -7,26 +7,26 @@ use Rattle.fields.proofs.values.read.Fields.numbers.Goals as goal
 pub loop-held-init : goal.loop-held-init
 loop-held-init c = sofar_none _ _ c.new-held.ensures
 
-pub returns-in-err-token : goal.returns-in-err-token
-returns-in-err-token c =
-    let n = c.in-err-token.ensures in
-    rw c.from-residual.ensures (numbers_stop _ _ _ c.loop-held.invariant (no_mark n 32 (λ e. let z : ◌≡◌ {A = ℕ} 0 1 = cc in omega arith)) (no_mark n 41 (λ e. let z : ◌≡◌ {A = ℕ} 0 1 = cc in omega arith)))
+pub returns-in_err-token : goal.returns-in_err-token
+returns-in_err-token c =
+    let n = c.in_err-token.ensures in
+    rw c.from_residual.ensures (numbers_stop _ _ _ c.loop-held.invariant (no_mark n 32 (λ e. let z : ◌≡◌ {A = ℕ} 0 1 = cc in omega arith)) (no_mark n 41 (λ e. let z : ◌≡◌ {A = ℕ} 0 1 = cc in omega arith)))
 
 pub returns-in-Close : goal.returns-in-Close
-returns-in-Close c = numbers_end _ _ _ c.loop-held.invariant _ (token_is c.in-ok-token.ensures Close c.in-Close.is)
+returns-in-Close c = numbers_end _ _ _ c.loop-held.invariant _ (token_is c.in_ok-token.ensures Close c.in-Close.is)
 
-pub returns-in-err-n : goal.returns-in-err-n
-returns-in-err-n c =
-    rw c.from-residual-in-err-n.ensures (numbers_none _ _ _ c.loop-held.invariant _ (token_is c.in-ok-token.ensures Space c.in-Space.is) c.in-err-n.ensures)
+pub returns-in_err-n-in-Space : goal.returns-in_err-n-in-Space
+returns-in_err-n-in-Space c =
+    rw c.from_residual-in_err-n-in-Space.ensures (numbers_none _ _ _ c.loop-held.invariant _ (token_is c.in_ok-token.ensures Space c.in-Space.is) c.in_err-n-in-Space.ensures)
 
 pub loop-held-smaller : goal.loop-held-smaller
-loop-held-smaller c = number_shorter _ _ _ c.loop-held.invariant _ (token_is c.in-ok-token.ensures Space c.in-Space.is) _ _ c.in-ok-n.ensures
+loop-held-smaller c = number_shorter _ _ _ c.loop-held.invariant _ (token_is c.in_ok-token.ensures Space c.in-Space.is) _ _ c.in_ok-n-in-Space.ensures
 
 pub loop-held-preserved : goal.loop-held-preserved
 loop-held-preserved c =
-    sofar_more _ _ _ c.loop-held.invariant _ (token_is c.in-ok-token.ensures Space c.in-Space.is) _ _ c.in-ok-n.ensures _ c.push.result c.push.ensures.test c.push.ensures.items
+    sofar_more _ _ _ c.loop-held.invariant _ (token_is c.in_ok-token.ensures Space c.in-Space.is) _ _ c.in_ok-n-in-Space.ensures _ c.push.result c.push.ensures.test c.push.ensures.items
 
-pub returns-in-default : goal.returns-in-default
-returns-in-default c =
-    let told = c.in-ok-token.ensures in
-    numbers_stop _ _ _ c.loop-held.invariant (λ t e. c.in-default.not-Space (next_token 32 t told e)) (λ t e. c.in-default.not-Close (next_token 41 t told e))
+pub returns-in_default : goal.returns-in_default
+returns-in_default c =
+    let told = c.in_ok-token.ensures in
+    numbers_stop _ _ _ c.loop-held.invariant (λ t e. c.in_default.not-Space (next_token 32 t told e)) (λ t e. c.in_default.not-Close (next_token 41 t told e))
