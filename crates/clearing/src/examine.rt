@@ -48,7 +48,7 @@ fn examine_regions<C: CoreTest>(
 ) -> Result<(), Refusal>
     requires count { length rows.now ≡ length (sealed table.now).tasks }
     requires places { placed.now ≡ places (sealed table.now) (sealed table.now).tasks rows.now }
-    ensures { refusal_in result ≡ region_refusal (limit test.now) (sealed table.now) 1 [] (sealed table.now).tasks rows.now }
+    ensures { refusal_in result ≡ region_refusal (C.limit test.now) (sealed table.now) 1 [] (sealed table.now).tasks rows.now }
 {
     for (i, task) in table.tasks().iter().enumerate() {
         let row = &rows[i];
@@ -63,7 +63,7 @@ fn examine_regions<C: CoreTest>(
 
 // The whole plan: its rows, then their regions, then the lists of the cores.
 pub fn examine_plan<C: CoreTest>(test: &C, table: &Sealed, rows: &[Row]) -> Result<(), Refusal>
-    ensures { Examined (accepts test.now) (limit test.now) (sealed table.now) rows.now result }
+    ensures { Examined (C.accepts test.now) (C.limit test.now) (sealed table.now) rows.now result }
 {
     examine_rows(table, rows)?;
     let all = place_all(table, rows);

@@ -8,7 +8,7 @@ use plans::{Placed, is_idle, on_core};
 // Nothing is asked of an empty core.
 fn core_holds<C: CoreTest>(test: &C, placed: &[Placed], core: u32) -> bool
     requires { length placed.now ≤ 24 }
-    ensures { Decides result (Holds (accepts test.now) placed.now core) }
+    ensures { Decides result (Holds (C.accepts test.now) placed.now core) }
 {
     is_idle(placed, core) || test.holds(on_core(placed, core).as_slice())
 }
@@ -16,7 +16,7 @@ fn core_holds<C: CoreTest>(test: &C, placed: &[Placed], core: u32) -> bool
 // The first core whose list does not hold.
 pub fn first_overloaded<C: CoreTest>(test: &C, cores: u32, placed: &[Placed]) -> Option<u32>
     requires { length placed.now ≤ 24 }
-    ensures { FirstNotHeld (accepts test.now) cores placed.now result }
+    ensures { FirstNotHeld (C.accepts test.now) cores placed.now result }
 {
     for core in 1..=cores {
         if !core_holds(test, placed, core) {

@@ -1,5 +1,5 @@
 -- A form is written in one way, and what stands after it is told by the bytes. Assumes nothing.
-use Rattle.std.proofs.Common.{◌≡◌, ℕ, zero, suc, List, [], ◌∷◌, ◌++◌, length, sym, refl, ap, ◌∙◌, subst, append_assoc, arith}
+use Rattle.std.proofs.Common.{◌≡◌, ℕ, zero, suc, List, [], ◌∷◌, ◌++◌, sym, refl, ap, ◌∙◌, subst, append_assoc, arith}
 use Rattle.std.specs.List.{AllByRecursion as All}
 use Rattle.grammar.specs.Forms.{Run, Ends, Form, Item, Items, form, number, nested, none, more, render, render_item, renders, line, IsLetter, IsDigit, IsNumber, Lawful, LawfulItem, Lawfuls}
 use Rattle.grammar.proofs.Runs.{write_form, write_more}

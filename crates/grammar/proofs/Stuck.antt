@@ -3,7 +3,7 @@ use Rattle.std.proofs.Common.{◌≡◌, ℕ, ◌+◌, ◌-◌, ◌≤◌, cond,
 use Rattle.std.proofs.lemmas.Bool.Decides.{nat_tests}
 use Rattle.std.specs.List.{AllByRecursion as All}
 use Rattle.grammar.specs.Kinds.{kind}
-use Rattle.grammar.specs.Forms.{IsDigit, line}
+use Rattle.grammar.specs.Forms.{IsDigit}
 use Rattle.grammar.specs.Faults.{Begins, Whole, Halts, Eighth, Fifth, count, Faulty}
 use Rattle.grammar.specs.States.{goes, after, from, run, fault_of}
 use Rattle.grammar.specs.declared.kind.Kind.{Kind}

@@ -14,14 +14,14 @@ pub fn fitting_is_by_place() -> bool
 
 // No two plans are both the choice, unless they agree in cost, cores and cuts.
 pub fn one_choice<C: CoreTest>(test: &C) -> bool
-    ensures { OneChoice (accepts test.now) (limit test.now) }
+    ensures { OneChoice (C.accepts test.now) (C.limit test.now) }
 {
     true
 }
 
 // Each task of the chosen plan has the cuts that are chosen behind the tasks before it.
 pub fn choice_has_chosen_cuts<C: CoreTest>(test: &C) -> bool
-    ensures { ChoiceHasChosenCuts (accepts test.now) (limit test.now) }
+    ensures { ChoiceHasChosenCuts (C.accepts test.now) (C.limit test.now) }
 {
     true
 }

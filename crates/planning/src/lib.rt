@@ -15,7 +15,7 @@ pub use types::{Planned, Search};
 // The cheapest lawful plan: of several, the one whose core numbers come first in dictionary order; and of cuts that cost the same,
 // those whose first region reaches furthest, then the second, and so on. Refused where no plan is lawful.
 pub fn plan<C: CoreTest>(table: &Sealed, test: &C) -> Result<Planned, Refusal>
-    ensures { Plans (accepts test.now) (limit test.now) (sealed table.now) result }
+    ensures { Plans (C.accepts test.now) (C.limit test.now) (sealed table.now) result }
 {
     let mut walk = Search::new();
     if table.tasks().is_empty() {

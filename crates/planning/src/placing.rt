@@ -37,7 +37,7 @@ pub fn put<C: CoreTest>(
     requires range { in_range (task_of task.now) ≡ true }
     requires light { weight ≤ 1000000 }
     requires few { length before.now < 24 }
-    ensures { PutWell (accepts test.now) (limit test.now) weight before.now (task_of task.now) core result }
+    ensures { PutWell (C.accepts test.now) (C.limit test.now) weight before.now (task_of task.now) core result }
 {
     let mut list = on_core(before, core);
     let longest = test.longest(list.as_slice(), task.deadline);

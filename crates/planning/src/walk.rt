@@ -43,8 +43,8 @@ impl Search {
     // false where the present beginning has been tried.
     fn descend<C: CoreTest>(&mut self, table: &Sealed, span: u32, test: &C) -> bool
         requires span { span ≡ span_of (periods (sealed table.now).tasks) }
-        requires going { Going (accepts test.now) (limit test.now) (sealed table.now) self.old }
-        ensures { Descends (accepts test.now) (limit test.now) (sealed table.now) self.old result self.new }
+        requires going { Going (C.accepts test.now) (C.limit test.now) (sealed table.now) self.old }
+        ensures { Descends (C.accepts test.now) (C.limit test.now) (sealed table.now) self.old result self.new }
     {
         let tasks = table.tasks();
         let before = self.placed.as_slice();
@@ -77,8 +77,8 @@ impl Search {
     // of an earlier task where all cores have been tried. False where there is no next one.
     pub fn advance<C: CoreTest>(&mut self, table: &Sealed, span: u32, test: &C) -> bool
         requires span { span ≡ span_of (periods (sealed table.now).tasks) }
-        requires going { Going (accepts test.now) (limit test.now) (sealed table.now) self.old }
-        ensures { Advances (accepts test.now) (limit test.now) (sealed table.now) self.old result self.new }
+        requires going { Going (C.accepts test.now) (C.limit test.now) (sealed table.now) self.old }
+        ensures { Advances (C.accepts test.now) (C.limit test.now) (sealed table.now) self.old result self.new }
     {
         if self.descend(table, span, test) {
             return true;

@@ -1,4 +1,4 @@
-use Rattle.std.proofs.Common.{◌≡◌, ◌⊎◌, refl, ap, inl, inr, ⊎_elim}
+use Rattle.std.proofs.Common.{◌≡◌, refl, ap, inl, inr, ⊎_elim}
 use Rattle.tasks.specs.Tables.{drafted, sealed}
 use Rattle.sheet.specs.Lines.{FirstRefused}
 use Rattle.sheet.specs.Sheets.{RefusedAfter, SheetRefused}
@@ -11,15 +11,15 @@ pub returns-in-Ok : goal.returns-in-Ok
 returns-in-Ok c =
     let bs = c.args.sheet.now in
     let line = table_line (sealed c.seal.result) in
-    let tells : LineFor bs line = inl (drafted c.read-sheet.new.draft, c.in-Ok.ensures, ap table_line c.seal.ensures) in
-    record { line = line; tells = tells; only = λ m h. one_line bs line m tells h; writes = c.write-table.ensures }
+    let tells : LineFor bs line = inl (drafted c.read_sheet.new.draft, c.in-Ok.ensures, ap table_line c.seal.ensures) in
+    record { line = line; tells = tells; only = λ m h. one_line bs line m tells h; writes = c.write_table.ensures }
 
 pub returns-in-Err : goal.returns-in-Err
 returns-in-Err c =
     let bs = c.args.sheet.now in
     let y = c.in-Err.refusal in
-    let draft = c.read-sheet.new.draft in
+    let draft = c.read_sheet.new.draft in
     let refused : SheetRefused bs y =
     ⊎_elim (λ (h : (draft ≡ c.new-draft.result) × FirstRefused 0 bs y). inl h.1) (λ (h : RefusedAfter bs (drafted draft) y). inr (drafted draft, h)) c.in-Err.ensures in
     let tells : LineFor bs (refusal_line y) = inr (y, refused, refl) in
-    record { line = refusal_line y; tells = tells; only = λ m h. one_line bs (refusal_line y) m tells h; writes = c.write-refusal.ensures }
+    record { line = refusal_line y; tells = tells; only = λ m h. one_line bs (refusal_line y) m tells h; writes = c.write_refusal.ensures }

@@ -15,7 +15,7 @@ use Rattle.clearing.proofs.Rows.{no_row, tasks_left, rows_left, none_left}
 use Rattle.clearing.proofs.Regions.{Examining, examining_start, examining_at, examining_range, examining_place, examining_more, examining_told, examining_end}
 use Rattle.clearing.proofs.examine.examine_regions.Given as given
 use Rattle.clearing.proofs.examine.examine_regions.Goals as goal
-use Rattle.clearing.proofs.examine.examine_regions.Goals.{After-task-item, After-regions-within}
+use Rattle.clearing.proofs.examine.examine_regions.Goals.{After-task-item, After-regions_within}
 
 pub loop-i-init : goal.loop-i-init
 loop-i-init g c =
@@ -43,44 +43,44 @@ module _ (g : given.Over) (c : After-task-item g) where
 pub bounds-rows-i : goal.bounds-rows-i
 bounds-rows-i g c = row_within g c
 
-pub slice-bounds-on-core-end : goal.slice-bounds-on-core-end
-slice-bounds-on-core-end g c =
-    let at = (goal.at.slice-bounds-on-core-end g c).After-task-item in
+pub slice_bounds-on_core-end : goal.slice_bounds-on_core-end
+slice_bounds-on_core-end g c =
+    let at = (goal.at.slice_bounds-on_core-end g c).After-task-item in
     omega (arith, examining_place (limit g at) (table g at) c.args.rows.now c.args.placed.now c.loop-i.i _ _ _ _ (here g at))
 
-pub on-core-before-requires : goal.on-core-before-requires
-on-core-before-requires g c =
+pub on_core-before-requires : goal.on_core-before-requires
+on_core-before-requires g c =
     let table = sealed c.args.table.now in
     omega (arith, length-take (c.loop-i.i - 0) c.args.placed.now, ap length c.requires.places, places_long table table.tasks c.args.rows.now, (rules_are table c.args.table.now.rules).few)
 
-pub regions-within-requires : goal.regions-within-requires
-regions-within-requires g c =
-    let at = (goal.at.regions-within-requires g c).After-task-item in
+pub regions_within-requires : goal.regions_within-requires
+regions_within-requires g c =
+    let at = (goal.at.regions_within-requires g c).After-task-item in
     examining_range (limit g at) (table g at) c.args.rows.now c.args.placed.now c.loop-i.i _ _ _ _ (here g at)
 
 -- what the test of the regions told, under the limit that the definition asks for
-told_of : (g : given.Over) (c : After-regions-within g) (told : Bool) → c.regions-within.result ≡ told
+told_of : (g : given.Over) (c : After-regions_within g) (told : Bool) → c.regions_within.result ≡ told
     → every (within (g.C.CoreTest.limit c.args.test.now (on_core (get_or c.args.rows.now c.loop-i.i no_row).core (take c.loop-i.i c.args.placed.now)) c.task-item.result.deadline)) (regions (task_of c.task-item.result) (get_or c.args.rows.now c.loop-i.i no_row).cuts) ≡ told
 told_of g c told e =
     let limit = g.C.CoreTest.limit c.args.test.now in
     let ps = c.args.placed.now in
     let r : Row = get_or c.args.rows.now c.loop-i.i no_row in
     let all : c.loop-i.i - 0 ≡ c.loop-i.i = omega arith in
-    let list = c.as-slice.ensures.value ∙ c.on-core-before.ensures.items ∙ ap (λ n. on_core r.core (take n ps)) all in
+    let list = c.as_slice.ensures.value ∙ c.on_core-before.ensures.items ∙ ap (λ n. on_core r.core (take n ps)) all in
     let longest = c.longest-longest.ensures ∙ ap (λ l. limit l c.task-item.result.deadline) list in
-    ap (λ o. every (within o) (regions (task_of c.task-item.result) r.cuts)) (sym longest) ∙ sym c.regions-within.ensures ∙ e
+    ap (λ o. every (within o) (regions (task_of c.task-item.result) r.cuts)) (sym longest) ∙ sym c.regions_within.ensures ∙ e
 
-pub returns-then-not-regions-within : goal.returns-then-not-regions-within
-returns-then-not-regions-within g c =
-    let at = (goal.at.returns-then-not-regions-within g c).After-task-item in
+pub returns-then-not-regions_within : goal.returns-then-not-regions_within
+returns-then-not-regions_within g c =
+    let at = (goal.at.returns-then-not-regions_within g c).After-task-item in
     examining_told (limit g at) (table g at) c.args.rows.now c.args.placed.now c.loop-i.i _ _ _ _ (here g at)
-    (told_of g (goal.at.returns-then-not-regions-within g c).After-regions-within false c.if-not-regions-within.true)
+    (told_of g (goal.at.returns-then-not-regions_within g c).After-regions_within false c.if-not-regions_within.true)
 
 pub loop-i-preserved : goal.loop-i-preserved
 loop-i-preserved g c =
     let at = (goal.at.loop-i-preserved g c).After-task-item in
     examining_more (limit g at) (table g at) c.args.rows.now c.args.placed.now c.loop-i.i _ _ _ _ (here g at)
-    (told_of g (goal.at.loop-i-preserved g c).After-regions-within true c.if-not-regions-within.false)
+    (told_of g (goal.at.loop-i-preserved g c).After-regions_within true c.if-not-regions_within.false)
 
 pub returns : goal.returns
 returns g c =

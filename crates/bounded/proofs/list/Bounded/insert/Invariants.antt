@@ -1,4 +1,4 @@
-use Rattle.std.proofs.Common.{◌≡◌, ◌-◌, ◌<◌, ◌≤◌}
+use Rattle.std.proofs.Common.{◌≡◌, ◌<◌, ◌≤◌}
 use Rattle.bounded.proofs.Parts.{Shifted}
 use Rattle.bounded.proofs.list.Bounded.insert.Given as goal
 

@@ -5,8 +5,8 @@ use Rattle.plans.specs.Plans.{Lawful}
 use Rattle.clearing.proofs.Refusing.{empty_lawful}
 use Rattle.clearing.proofs.cleared.Cleared.new.Goals as goal
 
-pub invariant-of-result : goal.invariant-of-result
-invariant-of-result c =
+pub invariant_of-result : goal.invariant_of-result
+invariant_of-result c =
     let table = c.seal.ensures ∙ c.new-empty.ensures in
     let lawful = subst (λ t. Lawful EdfAccepts edf_limit t []) (sym table) (empty_lawful EdfAccepts edf_limit 1) in
-    (∣ subst (λ l. Lawful EdfAccepts edf_limit (sealed c.seal.result) l) (sym c.no-rows.ensures) lawful ∣₁, tt)
+    (∣ subst (λ l. Lawful EdfAccepts edf_limit (sealed c.seal.result) l) (sym c.no_rows.ensures) lawful ∣₁, tt)

@@ -7,24 +7,24 @@ use Rattle.plans.specs.Plans.{Lawful}
 use Rattle.bounded.proofs.Pushed.{extended}
 use Rattle.clearing.proofs.Refusing.{fits_long}
 use Rattle.clearing.proofs.cleared.methods.clear.Goals as goal
-use Rattle.clearing.proofs.cleared.methods.clear.Goals.{After-extend-from-slice}
+use Rattle.clearing.proofs.cleared.methods.clear.Goals.{After-extend_from_slice}
 
 -- a lawful plan has room
-kept_rows : (c : After-extend-from-slice) → list_of c.extend-from-slice.new.self ≡ c.args.rows.now
+kept_rows : (c : After-extend_from_slice) → list_of c.extend_from_slice.new.self ≡ c.args.rows.now
 kept_rows c =
     let table = sealed c.args.table.now in
     let rows = c.args.rows.now in
-    let none = list_of c.no-rows-kept.result in
-    let many = fits_long edf_limit table [] table.tasks rows c.in-ok-examine-plan.ensures.fits in
-    let room : length none + length rows ≤ 24 = omega (arith, ap length c.no-rows-kept.ensures, many, (rules_are table c.args.table.now.rules).few) in
-    extended none rows (list_of c.extend-from-slice.new.self) 24 c.extend-from-slice.result c.extend-from-slice.ensures.items c.extend-from-slice.ensures.test room
-    ∙ ap (λ l. l ++ rows) c.no-rows-kept.ensures
+    let none = list_of c.no_rows-kept.result in
+    let many = fits_long edf_limit table [] table.tasks rows c.in_ok-examine_plan.ensures.fits in
+    let room : length none + length rows ≤ 24 = omega (arith, ap length c.no_rows-kept.ensures, many, (rules_are table c.args.table.now.rules).few) in
+    extended none rows (list_of c.extend_from_slice.new.self) 24 c.extend_from_slice.result c.extend_from_slice.ensures.items c.extend_from_slice.ensures.test room
+    ∙ ap (λ l. l ++ rows) c.no_rows-kept.ensures
 
-pub invariant-of-cleared : goal.invariant-of-cleared
-invariant-of-cleared c =
+pub invariant_of-cleared : goal.invariant_of-cleared
+invariant_of-cleared c =
     let rows = c.args.rows.now in
-    let lawful = subst (λ t. Lawful EdfAccepts edf_limit t rows) (sym c.duplicate.ensures) c.in-ok-examine-plan.ensures in
-    (∣ subst (λ l. Lawful EdfAccepts edf_limit (sealed c.duplicate.result) l) (sym (kept_rows (goal.at.invariant-of-cleared c).After-extend-from-slice)) lawful ∣₁, tt)
+    let lawful = subst (λ t. Lawful EdfAccepts edf_limit t rows) (sym c.duplicate.ensures) c.in_ok-examine_plan.ensures in
+    (∣ subst (λ l. Lawful EdfAccepts edf_limit (sealed c.duplicate.result) l) (sym (kept_rows (goal.at.invariant_of-cleared c).After-extend_from_slice)) lawful ∣₁, tt)
 
 pub returns : goal.returns
-returns c = (c.in-ok-examine-plan.ensures, c.duplicate.ensures, kept_rows (goal.at.returns c).After-extend-from-slice)
+returns c = (c.in_ok-examine_plan.ensures, c.duplicate.ensures, kept_rows (goal.at.returns c).After-extend_from_slice)
