@@ -102,6 +102,12 @@ def clause_parts(text):
     yield False, text[at:]
 
 
+def library_word(piece):
+    """`All` of the older library is AllByRecursion now, and no other word may stand under the name All."""
+    piece = piece.replace("AllByRecursion as All", "AllByRecursion")
+    return re.sub(r"(?<![\w'-])All(?![\w'-])", "AllByRecursion", piece)
+
+
 def main(args):
     check = "--check" in args
     args = [a for a in args if a != "--check"]
@@ -136,7 +142,7 @@ def main(args):
     if check or bad:
         return 1 if bad else 0
 
-    def turn(piece, answers):
+    def turn(piece):
         def one(m):
             word = m.group(1)
             prefix = ""
@@ -153,12 +159,16 @@ def main(args):
 
     for f in antt:
         text = f.read_text()
-        new = "".join(turn(p, f.name in ("Answers.antt", "Invariants.antt", "Proof.antt")) if code else p for code, p in code_parts(text))
+        new = "".join(turn(p) if code else p for code, p in code_parts(text))
+        if "AllByRecursion as All" in new:
+            new = "".join(library_word(p) if code else p for code, p in code_parts(new))
         if new != text:
             f.write_text(new)
     for f in rt:
         text = f.read_text()
-        new = "".join(turn(p, False) if code else p for code, p in clause_parts(text))
+        new = "".join(turn(p) if code else p for code, p in clause_parts(text))
+        if "AllByRecursion as All" in new:
+            new = "".join(library_word(p) if code else p for code, p in clause_parts(new))
         # where a trait declares a member, a colon stands right behind its name
         new = re.sub(r"(\bghost )(\w+)(?=:)", lambda m: m.group(1) + rows.get(m.group(2), m.group(2)), new)
         if new != text:

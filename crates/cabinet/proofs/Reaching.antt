@@ -2,7 +2,7 @@
 use Rattle.std.proofs.Common.{◌≡◌, ℕ, ◌-◌, ◌<◌, ◌≤◌, false, List, [], ◌∷◌, ◌++◌, take, Some, sym, refl, ap, ◌∙◌, subst, arith}
 use mathlib.Core.Logic.{∥∥₁_elim, ∥∥₁_map}
 use native.Mathlib.Bridge.{le_prop}
-use Rattle.std.specs.List.{AllByRecursion as All}
+use Rattle.std.specs.List.{AllByRecursion}
 use Rattle.std.proofs.ByRecursion.{All-get_or}
 use Rattle.machine.specs.declared.types.Job.{Job}
 use Rattle.machine.specs.declared.types.Job.TheVariants.{Idle, Ready, Inside}
@@ -43,10 +43,10 @@ keeps old next call reply e =
     )
 
 -- no job is late, in the records
-reached_in_time : (st : State) → Reached st → All (λ s. InTime st.clock s.job s.due) st.slots
+reached_in_time : (st : State) → Reached st → AllByRecursion (λ s. InTime st.clock s.job s.due) st.slots
 reached_in_time st r =
     let end = finally (start r.cores r.clock r.tasks) r.past in
-    subst (λ x. All (λ s. InTime x.clock s.job s.due) x.slots) (sym r.comes) (in_time_lem end.cores end.clock r.tasks end.slots (from_start r.cores r.clock r.tasks r.schedulable r.past).invariant)
+    subst (λ x. AllByRecursion (λ s. InTime x.clock s.job s.due) x.slots) (sym r.comes) (in_time_lem end.cores end.clock r.tasks end.slots (from_start r.cores r.clock r.tasks r.schedulable r.past).invariant)
 
 pub due_later : (st : State) (place : ℕ) (x : Slot) → ∥ Reached st ∥₁ → Some x ≡ slot_at place st.slots → false ≡ is_idle x.job → st.clock < x.due
 due_later st place x t is busy = ∥∥₁_elim t le_prop (λ r. go x.job x.due busy (at r))

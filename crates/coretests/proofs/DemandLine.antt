@@ -1,7 +1,7 @@
 -- A line above the demand, where the work of one span is less than the span. Assumes nothing.
 use Rattle.std.proofs.Common.{◌≡◌, ℕ, ◌+◌, ◌-◌, ◌*◌, ◌/◌, ◌%◌, ◌<◌, ◌≤◌, true, List, [], ◌∷◌, sum_by, sym, ap, ◌∙◌, mul_comm, div-lt_iff_lt-mul, add-mul, mul-le-mul_left, mul-add, div-le_self, arith}
 use native.Mathlib.Nat.{mul-mul-mul_comm, mul-div-le, mod-add-div, lt_of_mul-lt-mul_left}
-use Rattle.std.specs.List.{AllByRecursion as All}
+use Rattle.std.specs.List.{AllByRecursion}
 use Rattle.std.proofs.lemmas.Nat.{mul-le}
 use Rattle.std.proofs.lemmas.List.Sums.{sum_by-cons}
 use Rattle.span.specs.Spans.{span_of}
@@ -37,7 +37,7 @@ entry_under m t e f d =
     let few : e.period * jobs ≤ t + rest = omega (arith, mul-div-le (t + e.period - e.deadline) e.period) in
     omega (arith, swapped, mul-le-mul_left (share m e) few, mul-add (share m e) t rest)
 
-demand_under : (m t : ℕ) (xs : List Entry) → All InRange xs → Divides m xs → m * demand xs t ≤ sum_by (share m) xs * t + sum_by (lead_of m) xs
+demand_under : (m t : ℕ) (xs : List Entry) → AllByRecursion InRange xs → Divides m xs → m * demand xs t ≤ sum_by (share m) xs * t + sum_by (lead_of m) xs
 unfolding demand
 demand_under m t [] a d = omega arith
 demand_under m t (x ∷ xs) a d =

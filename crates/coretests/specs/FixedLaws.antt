@@ -2,7 +2,7 @@
 use Rattle.std.specs.Prelude.{◌≡◌, ℕ, ◌+◌, ◌-◌, ◌<◌, ◌≤◌, true, ◌&&◌, List, [], ◌∷◌, ◌++◌, length, take, drop, is_some, Some, None, Option, slice_index_or, refl}
 use Rattle.std.proofs.Common.{sym, ap, ◌∙◌, arith}
 use Rattle.std.specs.Option.{unwrap_or}
-use Rattle.std.specs.List.{AllByRecursion as All}
+use Rattle.std.specs.List.{AllByRecursion}
 use Rattle.std.proofs.lemmas.List.{at_drop_more, take_more}
 use Rattle.std.proofs.lemmas.List.Elements.{AllZip-push}
 use Rattle.std.proofs.ByRecursion.{All-take, All-weaker}
@@ -74,5 +74,5 @@ lesser_assoc (Some a) (Some b) (Some c) = ap Some (omega arith)
 pub front_tolerance : (xs : List Entry) (i : ℕ) (o : Option ℕ) → o ≡ tolerance (take (i - 0) xs) (slice_index_or xs i blank) → o ≡ tolerance (take i xs) (slice_index_or xs i blank)
 front_tolerance xs i o is = is ∙ ap (λ n. tolerance (take n xs) (slice_index_or xs i blank)) (omega arith)
 
-pub front_in_range : (xs : List Entry) (i : ℕ) → sound xs ≡ true → All (λ x. in_range x ≡ true) (take (i - 0) xs)
+pub front_in_range : (xs : List Entry) (i : ℕ) → sound xs ≡ true → AllByRecursion (λ x. in_range x ≡ true) (take (i - 0) xs)
 front_in_range xs i s = All-take (λ x. in_range x ≡ true) (i - 0) xs (All-weaker InRange (λ x. in_range x ≡ true) in_range_from xs (in_range_all xs s))

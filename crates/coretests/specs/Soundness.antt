@@ -5,7 +5,7 @@ use Rattle.std.proofs.lemmas.List.{at_drop_more, map-append}
 use Rattle.std.proofs.lemmas.Bool.{and_parts, and_from, and_left, and_right, leb-true, le-leb, lt-leb}
 use Rattle.std.proofs.lemmas.List.Elements.{length_all_zip}
 use Rattle.std.proofs.ByRecursion.{All-get_or}
-use Rattle.std.specs.List.{AllByRecursion as All}
+use Rattle.std.specs.List.{AllByRecursion}
 use Rattle.span.specs.Spans.{span_of, Positive, CommonMultiple}
 use Rattle.span.proofs.Multiples.{span_some, span_common, span_prefix}
 use Rattle.coretests.specs.declared.entry.Entry.{Entry}
@@ -55,7 +55,7 @@ ordered_out d xs i h f = at_drop_more (ordered_from d) xs i blank h ∙ and_left
 pub ordered_early : (d : ℕ) (xs : List Entry) (i : ℕ) → i < length xs → (get_or xs i blank).deadline < d → ordered_from d (drop i xs) ≡ false
 ordered_early d xs i h l = at_drop_more (ordered_from d) xs i blank h ∙ and_right _ _ (and_left _ _ (lt-leb _ _ l))
 
-pub ordered_in_range : (d : ℕ) (xs : List Entry) → ordered_from d xs ≡ true → All InRange xs
+pub ordered_in_range : (d : ℕ) (xs : List Entry) → ordered_from d xs ≡ true → AllByRecursion InRange xs
 ordered_in_range d [] h = tt
 ordered_in_range d (x ∷ xs) h =
     let a = and_parts _ _ h in
@@ -86,9 +86,9 @@ ordered_lighter d (x ∷ xs) (y ∷ ys) e h =
 
 -- the span of the periods
 abbrev pub Divides : ℕ → List Entry → Type 0
-Divides m xs = All (λ e. m % e.period ≡ 0) xs
+Divides m xs = AllByRecursion (λ e. m % e.period ≡ 0) xs
 
-pub periods_positive : (xs : List Entry) → All InRange xs → Positive (periods xs)
+pub periods_positive : (xs : List Entry) → AllByRecursion InRange xs → Positive (periods xs)
 periods_positive [] a = tt
 periods_positive (x ∷ xs) a = (a.0.period_low, periods_positive xs a.1)
 
@@ -131,7 +131,7 @@ pub unsound_span : (xs : List Entry) → 1000000 < span_of (periods xs) → soun
 unfolding sound
 unsound_span xs h = and_right (nat_le (length xs) 24) _ (and_right (ordered_from 0 xs) _ (lt-leb _ _ h))
 
-pub in_range_all : (xs : List Entry) → sound xs ≡ true → All InRange xs
+pub in_range_all : (xs : List Entry) → sound xs ≡ true → AllByRecursion InRange xs
 in_range_all xs s = ordered_in_range 0 xs (sound_is xs s).ordered
 
 pub in_range_at : (xs : List Entry) (i : ℕ) → sound xs ≡ true → i < length xs → InRange (slice_index_or xs i blank)

@@ -2,7 +2,7 @@
 use Rattle.std.specs.Prelude.{◌≡◌, ℕ, zero, suc, ◌+◌, ◌-◌, ◌/◌, ◌<◌, ◌≤◌, max, Bool, true, false, cond, leb, List, length, take, is_some, Some, None, Option, ◌≢◌, nat_le, slice_index_or, refl}
 use Rattle.std.proofs.Common.{sym, ap, ◌∙◌, ⊎_elim, add-zero, add-suc, mul-le-mul_left, arith}
 use Rattle.std.specs.Option.{SomeIff, unwrap_or}
-use Rattle.std.specs.List.{AllByRecursion as All}
+use Rattle.std.specs.List.{AllByRecursion}
 use Rattle.std.proofs.lemmas.List.Sums.{sum_by_more, sum_by-take-le}
 use Rattle.std.proofs.lemmas.Nat.{mul-le}
 use Rattle.std.proofs.lemmas.Bool.{or_cases, or_left, or_right, cases_Bool, leb-true, le-leb, both_ways, cases_lt}
@@ -64,7 +64,7 @@ interference_lighter t x y e =
     let jobs = ap (λ (p : ℕ). (t + p - 1) / p) e.period in
     mul-le y.load ((t + y.period - 1) / y.period) x.load ((t + x.period - 1) / x.period) e.load (omega (arith, jobs))
 
-pub workload_mono : (xs : List Entry) (e : Entry) (t u : ℕ) → All (λ x. in_range x ≡ true) xs → t ≤ u → workload xs e t ≤ workload xs e u
+pub workload_mono : (xs : List Entry) (e : Entry) (t u : ℕ) → AllByRecursion (λ x. in_range x ≡ true) xs → t ≤ u → workload xs e t ≤ workload xs e u
 unfolding workload
 workload_mono xs e t u a l = omega (arith, sum_all (λ x. in_range x ≡ true) (interference t) (interference u) (λ x f. interference_mono t u x l f) xs a)
 
@@ -92,7 +92,7 @@ abbrev pub margin : List Entry → Entry → ℕ
 margin before e = most (spare before e) 1 e.deadline
 
 -- one turn: no moment from t up to b + n has more than n to spare
-pub spare_skip : (xs : List Entry) (e : Entry) (t b n top : ℕ) → All (λ x. in_range x ≡ true) xs → b ≡ workload xs e t → t < b + n → t ≤ top
+pub spare_skip : (xs : List Entry) (e : Entry) (t b n top : ℕ) → AllByRecursion (λ x. in_range x ≡ true) xs → b ≡ workload xs e t → t < b + n → t ≤ top
     → max n (most (spare xs e) (b + n) (top + 1 - (b + n))) ≡ max n (most (spare xs e) t (top + 1 - t))
 spare_skip xs e t b n top a is l h =
     let f = spare xs e in
@@ -115,7 +115,7 @@ pub spare_here : (xs : List Entry) (e : Entry) (t b n top : ℕ) → b ≡ workl
 spare_here xs e t b n top is h = omega (arith, most_at (spare xs e) t (top + 1 - t) t (omega arith) (omega arith))
 
 -- no moment from t on has any to spare
-pub spare-none : (xs : List Entry) (e : Entry) (t n top : ℕ) → All (λ x. in_range x ≡ true) xs → top < workload xs e t → max n (most (spare xs e) t (top + 1 - t)) ≡ n
+pub spare-none : (xs : List Entry) (e : Entry) (t n top : ℕ) → AllByRecursion (λ x. in_range x ≡ true) xs → top < workload xs e t → max n (most (spare xs e) t (top + 1 - t)) ≡ n
 spare-none xs e t n top a h =
     omega (arith, most_le (spare xs e) t (top + 1 - t) 0 (λ s u v. omega (arith, workload_mono xs e t s a u)))
 

@@ -1,6 +1,6 @@
 // Fixed priorities.
 ghost use Rattle.std.specs.Prelude.{◌≡◌, ◌≤◌, true, []};
-ghost use Rattle.std.specs.List.{AllByRecursion as All};
+ghost use Rattle.std.specs.List.{AllByRecursion};
 ghost use Rattle.coretests.specs.Entries.{in_range};
 ghost use Rattle.coretests.specs.FixedPriority.{interference, tolerance, one_more, FixedAccepts, fixed_limit, least_tolerance};
 ghost use Rattle.coretests.specs.Guard.{guard_unsound, guard_outside, guard_lighter};
@@ -23,7 +23,7 @@ fn interference_of(e: &Entry, t: u64) -> u64
 
 // One more than the tolerance of `e` behind the entries before it, or 0 where it has none.
 fn least_not_tolerated(before: &[Entry], e: &Entry) -> u32
-    requires before_in_range { All (λ x. in_range x ≡ true) before.now }
+    requires before_in_range { AllByRecursion (λ x. in_range x ≡ true) before.now }
     requires e_in_range { in_range e.now ≡ true }
     ensures { result ≡ one_more (tolerance before.now e.now) }
 {
@@ -49,7 +49,7 @@ fn least_not_tolerated(before: &[Entry], e: &Entry) -> u32
 
 // The largest blocking that `e` tolerates behind the entries before it.
 fn tolerance_of(before: &[Entry], e: &Entry) -> Option<u32>
-    requires before_in_range { All (λ x. in_range x ≡ true) before.now }
+    requires before_in_range { AllByRecursion (λ x. in_range x ≡ true) before.now }
     requires e_in_range { in_range e.now ≡ true }
     ensures { result ≡ tolerance before.now e.now }
 {

@@ -1,6 +1,6 @@
 -- The backward recursion over the points finds the chosen cuts. Assumes nothing.
 use Rattle.std.proofs.Common.{◌≡◌, ℕ, zero, suc, ◌+◌, ◌-◌, ◌≤◌, Bool, true, false, cond, leb, List, [], ◌∷◌, ◌++◌, map, length, set, replicate, Some, None, Option, sym, refl, ap, ◌∙◌, subst, inl, inr, add-one, arith}
-use Rattle.std.specs.List.{AllByRecursion as All}
+use Rattle.std.specs.List.{AllByRecursion}
 use Rattle.std.proofs.lemmas.List.{replicate-append-replicate}
 use Rattle.std.proofs.lemmas.Bool.{leb-true, leb-false, cond_both, cases_lt}
 use Rattle.tasks.specs.Cuts.{regions_from, cost_at}
@@ -16,7 +16,7 @@ rank ps fs = cost_at ps fs ∷ map mark (flags_at ps fs)
 
 -- no region is too long, where the first has the length n already
 abbrev Short : Option ℕ → ℕ → List ℕ → List ℕ → List Bool → Type 0
-Short limit n bs ps fs = All (Within limit) (regions_from n bs ps fs)
+Short limit n bs ps fs = AllByRecursion (Within limit) (regions_from n bs ps fs)
 
 -- c is chosen for the points ps, the first of which is point e: fs are its flags from there on
 pub record Chosen (limit : Option ℕ) (n e : ℕ) (bs ps : List ℕ) (c : Cuts) : Type 0 where

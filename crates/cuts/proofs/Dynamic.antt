@@ -1,6 +1,6 @@
 -- The table of the backward programme, point by point, and what the programme ends with. Assumes nothing.
 use Rattle.std.proofs.Common.{◌≡◌, ℕ, ◌+◌, ◌<◌, ◌≤◌, Bool, true, false, cond, leb, List, length, get_or, drop, set, IfSome, Some, None, Option, sym, refl, ap, ◌∙◌, subst, inl, inr, arith}
-use Rattle.std.specs.List.{AllByRecursion as All}
+use Rattle.std.specs.List.{AllByRecursion}
 use Rattle.std.proofs.ByRecursion.{All-drop}
 use Rattle.std.proofs.lemmas.List.{drop_more, at_drop_all, length-drop, get_or-set_same, get_or-set_other}
 use Rattle.std.proofs.lemmas.Bool.{leb-true, leb-false, le-leb, lt-leb, cond-true, cond-false, cond_both, cases_Bool, cases_eq}
@@ -108,12 +108,12 @@ module _ (limit : Option ℕ) (t : Task) (r : Ranges t.blocks t.points) where
       start fs = regions-start t.blocks t.points fs r.some
 
       go : (o : Option Cuts) → Answer limit (get_or t.blocks 0 0) 0 (drop 1 t.blocks) t.points o → BestCuts limit t o
-      go None a = λ cuts h. a cuts (subst (All (Within limit)) (sym (start cuts)) h.short)
+      go None a = λ cuts h. a cuts (subst (AllByRecursion (Within limit)) (sym (start cuts)) h.short)
       go (Some c) a =
           subst (λ (fs : List Bool). (c.cost ≡ cut_cost t fs) × LeastCuts limit t fs) (sym a.flags_are) (
             a.cost_is,
             record {
-              allowed = record { at_points = a.at_points_lem; short = subst (All (Within limit)) (start a.fs) a.short };
-              least = λ others h. a.least others (subst (All (Within limit)) (sym (start others)) h.short);
+              allowed = record { at_points = a.at_points_lem; short = subst (AllByRecursion (Within limit)) (start a.fs) a.short };
+              least = λ others h. a.least others (subst (AllByRecursion (Within limit)) (sym (start others)) h.short);
             },
           )

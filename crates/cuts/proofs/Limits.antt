@@ -1,6 +1,6 @@
 -- The test of a limit says what the limit says. Assumes nothing.
 use Rattle.std.proofs.Common.{◌≡◌, ℕ, true, false, List, [], ◌∷◌, Some, None, Option, refl, arith}
-use Rattle.std.specs.List.{AllByRecursion as All}
+use Rattle.std.specs.List.{AllByRecursion}
 use Rattle.std.proofs.lemmas.Bool.{leb-true, leb-false, le-leb, and_parts, and_from}
 use Rattle.tasks.specs.Tasks.{every}
 use Rattle.cuts.specs.Allowed.{Within, within}
@@ -17,15 +17,15 @@ pub within_test : (limit : Option ℕ) (n : ℕ) → Within limit n → within l
 within_test None n w = refl
 within_test (Some l) n w = le-leb n l w
 
-pub every-within_true : (limit : Option ℕ) (ns : List ℕ) → every (within limit) ns ≡ true → All (Within limit) ns
+pub every-within_true : (limit : Option ℕ) (ns : List ℕ) → every (within limit) ns ≡ true → AllByRecursion (Within limit) ns
 every-within_true limit [] e = tt
 every-within_true limit (n ∷ ns) e =
     let es = and_parts (within limit n) (every (within limit) ns) e in
     (within_true limit n es.0, every-within_true limit ns es.1)
 
-pub every-within_test : (limit : Option ℕ) (ns : List ℕ) → All (Within limit) ns → every (within limit) ns ≡ true
+pub every-within_test : (limit : Option ℕ) (ns : List ℕ) → AllByRecursion (Within limit) ns → every (within limit) ns ≡ true
 every-within_test limit [] a = refl
 every-within_test limit (n ∷ ns) a = and_from (within limit n) (every (within limit) ns) (within_test limit n a.0) (every-within_test limit ns a.1)
 
-pub every-within_false : (limit : Option ℕ) (ns : List ℕ) → every (within limit) ns ≡ false → All (Within limit) ns → ⊥
+pub every-within_false : (limit : Option ℕ) (ns : List ℕ) → every (within limit) ns ≡ false → AllByRecursion (Within limit) ns → ⊥
 every-within_false limit ns e a = let t = every-within_test limit ns a in let z : ◌≡◌ {A = ℕ} 0 1 = cc in omega arith

@@ -1,6 +1,6 @@
 -- The ranges of a task as facts, and how much its blocks and its cuts can add up to. Assumes nothing.
 use Rattle.std.proofs.Common.{◌≡◌, ℕ, zero, suc, ◌+◌, ◌*◌, ◌<◌, ◌≤◌, Bool, true, false, eqb, leb, List, [], ◌∷◌, length, get_or, sym, ap, ◌∙◌, subst, arith}
-use Rattle.std.specs.List.{AllByRecursion as All}
+use Rattle.std.specs.List.{AllByRecursion}
 use Rattle.std.proofs.ByRecursion.{All-get_or}
 use Rattle.std.proofs.lemmas.List.{length-map, get_or-map}
 use Rattle.std.proofs.lemmas.Bool.{and_parts, leb-true, eqb-true}
@@ -15,13 +15,13 @@ pub record Ranges (bs ps : List ℕ) : Type 0 where
   pub some : 1 ≤ length bs
   pub few : length bs ≤ 16
   pub fewer : length ps + 1 ≡ length bs
-  pub lengths : All (λ n. n ≤ 1000000) bs
-  pub costs : All (λ n. n ≤ 1000000) ps
+  pub lengths : AllByRecursion (λ n. n ≤ 1000000) bs
+  pub costs : AllByRecursion (λ n. n ≤ 1000000) ps
 
 between_high : (low high n : ℕ) → between low high n ≡ true → n ≤ high
 between_high low high n h = leb-true n high (and_parts (leb low n) (leb n high) h).1
 
-every_high : (low high : ℕ) (ns : List ℕ) → every (between low high) ns ≡ true → All (λ n. n ≤ high) ns
+every_high : (low high : ℕ) (ns : List ℕ) → every (between low high) ns ≡ true → AllByRecursion (λ n. n ≤ high) ns
 every_high low high [] h = tt
 every_high low high (n ∷ ns) h =
     let hs = and_parts (between low high n) (every (between low high) ns) h in
@@ -62,13 +62,13 @@ module _ {bs ps : List ℕ} (r : Ranges bs ps) (j : ℕ) (h : j < length ps) whe
   pub block_after : get_or bs (j + 1) 0 ≤ 1000000
   block_after = All-get_or (λ n. n ≤ 1000000) bs (j + 1) 0 in_blocks r.lengths
 
-pub cost_at_most : (ps : List ℕ) (cuts : List Bool) → All (λ n. n ≤ 1000000) ps → cost_at ps cuts ≤ 1000000 * length ps
+pub cost_at_most : (ps : List ℕ) (cuts : List Bool) → AllByRecursion (λ n. n ≤ 1000000) ps → cost_at ps cuts ≤ 1000000 * length ps
 cost_at_most [] cuts a = omega arith
 cost_at_most (p ∷ ps) [] a = omega arith
 cost_at_most (p ∷ ps) (false ∷ cuts) a = omega (arith, cost_at_most ps cuts a.1)
 cost_at_most (p ∷ ps) (true ∷ cuts) a = omega (arith, a.0, cost_at_most ps cuts a.1)
 
-pub total_at_most : (ns : List ℕ) → All (λ n. n ≤ 1000000) ns → total ns ≤ 1000000 * length ns
+pub total_at_most : (ns : List ℕ) → AllByRecursion (λ n. n ≤ 1000000) ns → total ns ≤ 1000000 * length ns
 total_at_most [] a = omega arith
 total_at_most (n ∷ ns) a = omega (arith, a.0, total_at_most ns a.1)
 

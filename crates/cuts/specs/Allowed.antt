@@ -1,6 +1,6 @@
 -- Which cuts of a task a limit allows, and which of those are chosen.
 use Rattle.std.specs.Prelude.{◌≡◌, ℕ, Bool, true, false, ◌||◌, List, [], ◌∷◌, map, Some, None, Option, nat_le}
-use Rattle.std.specs.List.{AllByRecursion as All}
+use Rattle.std.specs.List.{AllByRecursion}
 use Rattle.tasks.specs.Tasks.{Task}
 use Rattle.tasks.specs.Cuts.{regions, cut_cost}
 use Rattle.coretests.specs.Limits.{AtMost}
@@ -30,7 +30,7 @@ within (Some l) n = nat_le n l
 -- the cuts are at points of the task, and no region is longer than the limit
 pub record Allowed (limit : Option ℕ) (t : Task) (cuts : List Bool) : Type 0 where
   pub at_points : cut_beyond t.points cuts ≡ false
-  pub short : All (Within limit) (regions t cuts)
+  pub short : AllByRecursion (Within limit) (regions t cuts)
 
 -- What cuts are ranked by: their cost, and then their flags.
 -- Where two sets of cuts first differ, the one without the cut there has the region that reaches further.

@@ -1,7 +1,7 @@
 -- What an answer says of a lawful form whose line the bytes are. Assumes nothing.
 use Rattle.std.proofs.Common.{◌≡◌, ℕ, ◌<◌, ◌≤◌, Bool, true, ◌&&◌, leb, List, [], ◌∷◌, length, Some, None, codes, sym, refl, ap, ◌∙◌, subst, append-nil, arith}
 use Rattle.std.proofs.lemmas.Bool.Decides.{nat_tests}
-use Rattle.std.specs.List.{AllByRecursion as All}
+use Rattle.std.specs.List.{AllByRecursion}
 use Rattle.grammar.specs.Forms.{Form, line, IsLetter, IsWord, IsNumber, Lawful, Lawfuls}
 use Rattle.grammar.proofs.Same.{lawful_spelt, line_same}
 use Rattle.fields.specs.Wanted.{value, numerals, sheet_form, Written, task_form, AreNumbers, IsTask}
@@ -14,7 +14,7 @@ abbrev lettersb : List ℕ → Bool
 lettersb [] = true
 lettersb (c ∷ cs) = (leb 97 c && leb c 122) && lettersb cs
 
-all_letters : (w : List ℕ) → lettersb w ≡ true → All IsLetter w
+all_letters : (w : List ℕ) → lettersb w ≡ true → AllByRecursion IsLetter w
 all_letters [] e = tt
 all_letters (c ∷ cs) e = ((grind (arith, nat_tests), grind (arith, nat_tests)), all_letters cs (grind (arith, nat_tests)))
 

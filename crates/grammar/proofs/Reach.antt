@@ -1,7 +1,7 @@
 -- What the bytes that a run went over are: the front of a line, with its open forms. Assumes nothing.
 use Rattle.std.proofs.Common.{◌≡◌, ℕ, zero, suc, ◌+◌, ◌-◌, ◌<◌, ◌≤◌, Bool, true, false, ltb, ◌⊎◌, List, [], ◌∷◌, ◌++◌, length, Some, None, Option, sym, refl, ap, ◌∙◌, subst, inl, inr, append_assoc, append-nil, arith, length-append}
 use Rattle.std.proofs.lemmas.Bool.Decides.{nat_tests}
-use Rattle.std.specs.List.{AllByRecursion as All}
+use Rattle.std.specs.List.{AllByRecursion}
 use Rattle.grammar.specs.Kinds.{kind}
 use Rattle.grammar.specs.Forms.{Form, form, Items, none, more, number, nested, IsLetter, IsDigit, IsWord, IsNumber, render, render_item, renders, line, Lawful, LawfulItem, Lawfuls}
 use Rattle.grammar.specs.Forms as forms
@@ -88,7 +88,7 @@ pub record Spelling (d n : ℕ) (p : List ℕ) : Type 0 where
   pub word : List ℕ
   pub room : Room outer (suc allow)
   pub deep : depth outer + 1 ≡ d
-  pub letters : All IsLetter word
+  pub letters : AllByRecursion IsLetter word
   pub long : length word ≡ n
   pub fits : n ≤ 8
   pub is : p ≡ written outer ++ 40 ∷ word
@@ -101,7 +101,7 @@ pub record Counting (d n : ℕ) (p : List ℕ) : Type 0 where
   pub others : List ℕ
   pub low : 49 ≤ first
   pub high : first ≤ 57
-  pub figures : All IsDigit others
+  pub figures : AllByRecursion IsDigit others
   pub long : length others + 1 ≡ n
   pub fits : n ≤ 7
   pub is : p ≡ before ++ 32 ∷ (first ∷ others)
@@ -191,7 +191,7 @@ within_begins d p g =
 shorter : (p q : List ℕ) → Begins (p ++ q) → Begins p
 shorter p q b = record { tree = b.tree; lawful = b.lawful; left = q ++ b.left; is = b.is ∙ append_assoc p q b.left }
 
-letter_a : All IsLetter (97 ∷ [])
+letter_a : AllByRecursion IsLetter (97 ∷ [])
 letter_a = ((omega arith, omega arith), tt)
 
 spelling_more : (d n c : ℕ) (p : List ℕ) → n < 8 → IsLetter c → Spelling d n p → Spelling d (n + 1) (p ++ c ∷ [])
@@ -208,7 +208,7 @@ spelling_more d n c p h k g =
       is = ap (λ l. l ++ c ∷ []) g.is ∙ append_assoc (written g.outer) (40 ∷ g.word) (c ∷ []);
     }
   where
-    all_one : (w : List ℕ) → All IsLetter w → All IsLetter (w ++ c ∷ [])
+    all_one : (w : List ℕ) → AllByRecursion IsLetter w → AllByRecursion IsLetter (w ++ c ∷ [])
     all_one [] a = (k, tt)
     all_one (x ∷ w) a = (a.0, all_one w a.1)
 
@@ -227,7 +227,7 @@ counting_more d n c p h k g =
       is = ap (λ l. l ++ c ∷ []) g.is ∙ append_assoc g.before (32 ∷ (g.first ∷ g.others)) (c ∷ []);
     }
   where
-    all_one : (w : List ℕ) → All IsDigit w → All IsDigit (w ++ c ∷ [])
+    all_one : (w : List ℕ) → AllByRecursion IsDigit w → AllByRecursion IsDigit (w ++ c ∷ [])
     all_one [] a = (k, tt)
     all_one (x ∷ w) a = (a.0, all_one w a.1)
 

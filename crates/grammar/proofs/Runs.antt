@@ -2,7 +2,7 @@
 use Rattle.std.proofs.Common.{◌≡◌, ℕ, zero, suc, ◌+◌, ◌-◌, ◌<◌, ◌≤◌, cond, eqb, ltb, ◌⊎◌, List, [], ◌∷◌, ◌++◌, length, Some, None, Option, sym, refl, ap, ◌∙◌, inl, inr, append_assoc, arith}
 use Rattle.std.proofs.lemmas.Bool.Decides.{nat_tests}
 use Rattle.std.proofs.lemmas.Bool.{cond-false, cond-true, lt-ltb}
-use Rattle.std.specs.List.{AllByRecursion as All}
+use Rattle.std.specs.List.{AllByRecursion}
 use Rattle.grammar.specs.Kinds.{kind}
 use Rattle.grammar.specs.Forms.{Form, form, Items, none, more, number, nested, IsLetter, IsDigit, IsNumber, render, render_item, renders, line, Lawful, LawfulItem, Lawfuls}
 use Rattle.grammar.specs.Forms as forms
@@ -38,7 +38,7 @@ pub word_settled : (d n : ℕ) → 0 < d → 0 < n → Settled (Word d n) d
 word_settled d n h k =
     (cond-false (eqb n 0) None (after d kinds.Space) (zero_no n k) ∙ (after_settled d h).0, cond-false (eqb n 0) None (after d kinds.Close) (zero_no n k) ∙ (after_settled d h).1)
 
-pub run_word : (w : List ℕ) (d m : ℕ) (t : List ℕ) → All IsLetter w → m + length w ≤ 8 → run (Word d m) (w ++ t) ≡ run (Word d (m + length w)) t
+pub run_word : (w : List ℕ) (d m : ℕ) (t : List ℕ) → AllByRecursion IsLetter w → m + length w ≤ 8 → run (Word d m) (w ++ t) ≡ run (Word d (m + length w)) t
 run_word [] d m t a h = ap (λ n. run (Word d n) t) (let z : m ≡ m + 0 = omega arith in z)
 run_word (c ∷ w) d m t a h =
     let one : goes (Word d m) (kind c) ≡ Some (Word d (m + 1)) = ap (goes (Word d m)) (letter_kind c a.0) ∙ cond-true (ltb m 8) (Some (Word d (m + 1))) None (lt-ltb m 8 (omega arith)) in
@@ -55,7 +55,7 @@ count-step d m c f h = cases (figure_kind c f)
     cases (inl e) = ap (goes (Digits d m)) e ∙ yes
     cases (inr e) = ap (goes (Digits d m)) e ∙ yes
 
-pub run_digits : (cs : List ℕ) (d m : ℕ) (t : List ℕ) → All IsDigit cs → m + length cs ≤ 7 → run (Digits d m) (cs ++ t) ≡ run (Digits d (m + length cs)) t
+pub run_digits : (cs : List ℕ) (d m : ℕ) (t : List ℕ) → AllByRecursion IsDigit cs → m + length cs ≤ 7 → run (Digits d m) (cs ++ t) ≡ run (Digits d (m + length cs)) t
 run_digits [] d m t a h = ap (λ n. run (Digits d n) t) (let z : m ≡ m + 0 = omega arith in z)
 run_digits (c ∷ cs) d m t a h =
     let long : m + 1 + length cs ≡ m + length (c ∷ cs) = omega arith in

@@ -1,6 +1,6 @@
 -- A form is written in one way, and what stands after it is told by the bytes. Assumes nothing.
 use Rattle.std.proofs.Common.{◌≡◌, ℕ, zero, suc, List, [], ◌∷◌, ◌++◌, sym, refl, ap, ◌∙◌, subst, append_assoc, arith}
-use Rattle.std.specs.List.{AllByRecursion as All}
+use Rattle.std.specs.List.{AllByRecursion}
 use Rattle.grammar.specs.Forms.{Run, Ends, Form, Item, Items, form, number, nested, none, more, render, render_item, renders, line, IsLetter, IsDigit, IsNumber, Lawful, LawfulItem, Lawfuls}
 use Rattle.grammar.proofs.Runs.{write_form, write_more}
 
@@ -22,7 +22,7 @@ pub run_clash : (P : ℕ → Type 0) (w t s : List ℕ) → Run P w → Ends P s
 run_clash P [] t s r h e = omega (arith, r.0)
 run_clash P (x ∷ w) t s r h e = subst (Ends P) (sym e) h r.1.0
 
-pub runs_same : (P : ℕ → Type 0) (w v x y : List ℕ) → All P w → All P v → Ends P x → Ends P y → w ++ x ≡ v ++ y → (w ≡ v) × (x ≡ y)
+pub runs_same : (P : ℕ → Type 0) (w v x y : List ℕ) → AllByRecursion P w → AllByRecursion P v → Ends P x → Ends P y → w ++ x ≡ v ++ y → (w ≡ v) × (x ≡ y)
 runs_same P [] [] x y p q h g e = (refl, e)
 runs_same P [] (b ∷ v) x y p q h g e = absurd (subst (Ends P) e h q.0)
 runs_same P (a ∷ w) [] x y p q h g e = absurd (subst (Ends P) (sym e) g p.0)

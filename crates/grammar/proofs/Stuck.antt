@@ -1,7 +1,7 @@
 -- Where a run goes no further the line is refused, and how. Assumes nothing.
 use Rattle.std.proofs.Common.{◌≡◌, ℕ, ◌+◌, ◌-◌, ◌≤◌, cond, eqb, ◌⊎◌, List, [], ◌∷◌, ◌++◌, length, Some, None, Option, sym, refl, ap, ◌∙◌, inl, inr, append_assoc, append-nil, arith, length-append}
 use Rattle.std.proofs.lemmas.Bool.Decides.{nat_tests}
-use Rattle.std.specs.List.{AllByRecursion as All}
+use Rattle.std.specs.List.{AllByRecursion}
 use Rattle.grammar.specs.Kinds.{kind}
 use Rattle.grammar.specs.Forms.{IsDigit}
 use Rattle.grammar.specs.Faults.{Begins, Whole, Halts, Eighth, Fifth, count, Faulty}
@@ -155,7 +155,7 @@ spaced u t e = let q = front_runs Start t u (32 ∷ []) e in step_space q.0 t (o
 
 -- seven digits after a space
 
-seven : (ds : List ℕ) (d : ℕ) (t : State) → length ds ≡ 7 → All IsDigit ds → run (Item d) ds ≡ Some t → t ≡ Digits d 7
+seven : (ds : List ℕ) (d : ℕ) (t : State) → length ds ≡ 7 → AllByRecursion IsDigit ds → run (Item d) ds ≡ Some t → t ≡ Digits d 7
 seven [] d t n a e = absurd (omega arith)
 seven (c ∷ []) d t n a e = absurd (omega arith)
 seven (c ∷ b ∷ cs) d t n a e = first (figure_kind c a.0)

@@ -1,6 +1,6 @@
 -- What each fault says of the bytes from the start of a line on, in terms of the lawful lines alone.
 use Rattle.std.specs.Prelude.{◌≡◌, ℕ, ◌+◌, cond, List, [], ◌∷◌, ◌++◌, length, ◌==◌}
-use Rattle.std.specs.List.{AllByRecursion as All}
+use Rattle.std.specs.List.{AllByRecursion}
 use Rattle.grammar.specs.Forms.{Form, Lawful, line, IsDigit}
 
 -- what a line can be refused for by the grammar, and the offset at which it is
@@ -52,7 +52,7 @@ pub record Halts (bs p q : List ℕ) : Type 0 where
 pub record Eighth (p q u ds : List ℕ) : Type 0 where
   pub cut : p ≡ (u ++ 32 ∷ []) ++ ds
   pub seven : length ds ≡ 7
-  pub digits : All IsDigit ds
+  pub digits : AllByRecursion IsDigit ds
   pub next : First IsDigit q
 
 -- how often the byte stands in the list

@@ -1,7 +1,7 @@
 -- A release and an early keep the invariant, the start has it, and under it no job is at its deadline. Assumes nothing.
 use Rattle.std.proofs.Common.{◌≡◌, ℕ, zero, suc, ◌+◌, ◌-◌, ◌*◌, ◌/◌, ◌<◌, ◌≤◌, max, Bool, true, false, cond, leb, List, [], ◌∷◌, map, Some, None, Option, sym, refl, ap, ◌∙◌, subst, inl, inr, mul-le-mul_left, arith}
 use native.Mathlib.Nat.{div-eq-sub-div}
-use Rattle.std.specs.List.{AllByRecursion as All, slice_get}
+use Rattle.std.specs.List.{AllByRecursion, slice_get}
 use Rattle.std.proofs.ByRecursion.{All-get_or}
 use Rattle.std.proofs.lemmas.Bool.{leb-true, cond_both, cases_Bool, cond-true, cond-false, cases_eq, le-leb, eq-eqb, both_ways}
 use Rattle.bounded.specs.Lists.{list_of}
@@ -130,7 +130,7 @@ pub unreleased_tasks : (ts : List Assigned) → tasks_in (map unreleased ts) ≡
 unreleased_tasks [] = refl
 unreleased_tasks (t ∷ ts) = ap (λ (l : List Assigned). t ∷ l) (unreleased_tasks ts)
 
-unreleased_fine : (cores now : ℕ) (ts : List Assigned) → All (SoundTask cores) ts → All (Fine cores 1 now) (map unreleased ts)
+unreleased_fine : (cores now : ℕ) (ts : List Assigned) → AllByRecursion (SoundTask cores) ts → AllByRecursion (Fine cores 1 now) (map unreleased ts)
 unreleased_fine cores now [] a = tt
 unreleased_fine cores now (t ∷ ts) a = (record { sound = a.0; well = tt }, unreleased_fine cores now ts a.1)
 
@@ -157,7 +157,7 @@ job_in_time cores now t (Inside k left) due s w h =
     let e : leb due due ≡ true = le-leb due due (omega arith) in
     omega (arith, h (omega (arith, cond-true {A = ℕ} (leb due due) 1 0 e)), w.1)
 
-pub in_time_lem : (cores now : ℕ) (tasks : List Assigned) (ss : List Slot) → Invariant cores 1 now tasks ss → All (λ s. InTime now s.job s.due) ss
+pub in_time_lem : (cores now : ℕ) (tasks : List Assigned) (ss : List Slot) → Invariant cores 1 now tasks ss → AllByRecursion (λ s. InTime now s.job s.due) ss
 in_time_lem cores now tasks ss i = all_from (Fine cores 1 now) (λ s. InTime now s.job s.due) ss i.fine (λ s f m.
     let c : ℕ = s.task.core in
     let d : ℕ = s.due in

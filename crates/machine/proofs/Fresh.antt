@@ -1,7 +1,7 @@
 -- Where no job of a core is due by d, and a release could make one so, what the core has to do by d fits before d. Assumes nothing.
 use Rattle.std.proofs.Common.{◌≡◌, ℕ, suc, ◌+◌, ◌-◌, ◌*◌, ◌/◌, ◌<◌, ◌≤◌, Bool, true, false, cond, eqb, leb, List, [], ◌∷◌, ◌++◌, length, Option, sym, refl, ap, ◌∙◌, subst, inl, inr, mul-le-mul_left, mul-zero, arith}
 use native.Mathlib.Nat.{div-eq_of_lt}
-use Rattle.std.specs.List.{AllByRecursion as All}
+use Rattle.std.specs.List.{AllByRecursion}
 use Rattle.std.proofs.ByRecursion.{All-get_or, all_kept_by, All-map, All-weaker}
 use Rattle.std.proofs.lemmas.List.Sums.{sum_by-cons}
 use Rattle.std.proofs.lemmas.Bool.{leb-true, leb-false, cond_both, cases_Bool, cond-true, cond-false, cases_eq}
@@ -52,7 +52,7 @@ demand_if : (b : Bool) (i : Assigned) (l : List Assigned) (t : ℕ) → demand_o
 demand_if true i l t = refl
 demand_if false i l t = omega arith
 
-free_sum : (cores slack c d now t : ℕ) (ss : List Slot) → All (Fine cores slack now) ss → now + t ≡ d → sum_of (count_on c (pending d)) ss ≡ 0 → sum_of (count_on c within) ss ≡ 0 → sum_of (count_on c (weight d now)) ss ≤ demand_of (tasks_on c (tasks_in ss)) t
+free_sum : (cores slack c d now t : ℕ) (ss : List Slot) → AllByRecursion (Fine cores slack now) ss → now + t ≡ d → sum_of (count_on c (pending d)) ss ≡ 0 → sum_of (count_on c within) ss ≡ 0 → sum_of (count_on c (weight d now)) ss ≤ demand_of (tasks_on c (tasks_in ss)) t
 free_sum cores slack c d now t [] a e p w = omega arith
 free_sum cores slack c d now t (s ∷ ss) a e p w =
     let p0 : count_on c (pending d) s ≡ 0 = omega arith in
@@ -90,7 +90,7 @@ hit_if cores c d now t s true l n f e p w h =
     record { before = []; task = s.task; later = l; k = r.0; split = refl; in_task = r.1; after_t = r.2; bound = omega (arith, r.3, h, come_demand cores d now t s.task s.last f.sound e) }
 hit_if cores c d now t s false l n f e p w h = absurd (omega arith)
 
-blocked_sum : (cores c d now t : ℕ) (ss : List Slot) → All (Fine cores 1 now) ss → now + t ≡ d → sum_of (count_on c (pending d)) ss ≡ 0 → sum_of (count_on c within) ss ≡ 1 → Blocked t (sum_of (count_on c (weight d now)) ss) (tasks_on c (tasks_in ss))
+blocked_sum : (cores c d now t : ℕ) (ss : List Slot) → AllByRecursion (Fine cores 1 now) ss → now + t ≡ d → sum_of (count_on c (pending d)) ss ≡ 0 → sum_of (count_on c within) ss ≡ 1 → Blocked t (sum_of (count_on c (weight d now)) ss) (tasks_on c (tasks_in ss))
 blocked_sum cores c d now t [] a e p w = absurd (omega arith)
 blocked_sum cores c d now t (s ∷ ss) a e p w =
     let p0 : count_on c (pending d) s ≡ 0 = omega arith in
@@ -117,22 +117,22 @@ late_none cores i t s h =
     let z : (t + i.period - i.deadline) / i.period ≡ 0 = div-eq_of_lt (omega (arith, s.in_period)) in
     ap (λ n. load_of i * n) z ∙ mul-zero (load_of i)
 
-late_all : (cores t x : ℕ) (l : List Assigned) → All (SoundTask cores) l → All (λ j. x ≤ j.deadline) l → t < x → demand_of l t ≡ 0
+late_all : (cores t x : ℕ) (l : List Assigned) → AllByRecursion (SoundTask cores) l → AllByRecursion (λ j. x ≤ j.deadline) l → t < x → demand_of l t ≡ 0
 late_all cores t x [] s a h = refl
 late_all cores t x (i ∷ l) s a h = omega (arith, late_none cores i t s.0 (omega (arith, a.0)), late_all cores t x l s.1 a.1 h)
 
 -- some deadline that could be met by d
-could_low : (c d now x : ℕ) (ss : List Slot) → All (λ j. x ≤ j.deadline) (tasks_on c (tasks_in ss)) → 1 ≤ sum_of (count_on c (could d now)) ss → now + x ≤ d
+could_low : (c d now x : ℕ) (ss : List Slot) → AllByRecursion (λ j. x ≤ j.deadline) (tasks_on c (tasks_in ss)) → 1 ≤ sum_of (count_on c (could d now)) ss → now + x ≤ d
 could_low c d now x [] a h = omega arith
 could_low c d now x (s ∷ ss) a h =
     elim (cases_Bool (runs_on c s)) [
       | inl o ↦
-          let b : All (λ j. x ≤ j.deadline) (s.task ∷ tasks_on c (tasks_in ss)) = subst (All (λ j. x ≤ j.deadline)) (cond-true (runs_on c s) (s.task ∷ tasks_on c (tasks_in ss)) (tasks_on c (tasks_in ss)) o) a in
+          let b : AllByRecursion (λ j. x ≤ j.deadline) (s.task ∷ tasks_on c (tasks_in ss)) = subst (AllByRecursion (λ j. x ≤ j.deadline)) (cond-true (runs_on c s) (s.task ∷ tasks_on c (tasks_in ss)) (tasks_on c (tasks_in ss)) o) a in
           elim (cases_Bool (leb (now + s.task.deadline) d)) [
             | inl t ↦ omega (arith, leb-true (now + s.task.deadline) d t, b.0)
             | inr f ↦ could_low c d now x ss b.1 (omega (arith, cond-true (runs_on c s) (could d now s) 0 o, cond-false {A = ℕ} (leb (now + s.task.deadline) d) 1 0 f))
           ]
-      | inr o ↦ could_low c d now x ss (subst (All (λ j. x ≤ j.deadline)) (cond-false (runs_on c s) (s.task ∷ tasks_on c (tasks_in ss)) (tasks_on c (tasks_in ss)) o) a) (omega (arith, cond-false (runs_on c s) (could d now s) 0 o))
+      | inr o ↦ could_low c d now x ss (subst (AllByRecursion (λ j. x ≤ j.deadline)) (cond-false (runs_on c s) (s.task ∷ tasks_on c (tasks_in ss)) (tasks_on c (tasks_in ss)) o) a) (omega (arith, cond-false (runs_on c s) (could d now s) 0 o))
     ]
 
 first_low : (c d now : ℕ) (ss : List Slot) → Ordered (tasks_on c (tasks_in ss)) → 1 ≤ sum_of (count_on c (could d now)) ss → now + first_deadline (tasks_on c (tasks_in ss)) ≤ d
@@ -141,7 +141,7 @@ first_low c d now (s ∷ ss) ord h = elim (cases_Bool (runs_on c s)) [
   | inl o ↦
       let e : tasks_on c (tasks_in (s ∷ ss)) ≡ s.task ∷ tasks_on c (tasks_in ss) = cond-true (runs_on c s) (s.task ∷ tasks_on c (tasks_in ss)) (tasks_on c (tasks_in ss)) o in
       let t : Ordered (s.task ∷ tasks_on c (tasks_in ss)) = subst Ordered e ord in
-      subst (λ (l : List Assigned). now + first_deadline l ≤ d) (sym e) (could_low c d now s.task.deadline (s ∷ ss) (subst (All (λ j. s.task.deadline ≤ j.deadline)) (sym e) (omega arith, t.0)) h)
+      subst (λ (l : List Assigned). now + first_deadline l ≤ d) (sym e) (could_low c d now s.task.deadline (s ∷ ss) (subst (AllByRecursion (λ j. s.task.deadline ≤ j.deadline)) (sym e) (omega arith, t.0)) h)
   | inr o ↦
       let e : tasks_on c (tasks_in (s ∷ ss)) ≡ tasks_on c (tasks_in ss) = cond-false (runs_on c s) (s.task ∷ tasks_on c (tasks_in ss)) (tasks_on c (tasks_in ss)) o in
       subst (λ (l : List Assigned). now + first_deadline l ≤ d) (sym e) (first_low c d now ss (subst Ordered e ord) (omega (arith, cond-false (runs_on c s) (could d now s) 0 o)))
@@ -153,11 +153,11 @@ blocked_bound cores c t n tasks fit low r =
     let tail = r.task ∷ r.later in
     let parts : demand_of l t ≡ demand_of r.before t + demand_of tail t = ap (λ x. demand_of x t) r.split ∙ demand-append r.before tail t in
     let ord : Ordered tail = ordered-from r.before tail (subst Ordered r.split (fit.ordered c)) in
-    let snd : All (SoundTask cores) tail = all_right (SoundTask cores) r.before tail (subst (All (SoundTask cores)) r.split (all_kept_by (λ j. eqb j.core c) (SoundTask cores) tasks fit.sound)) in
+    let snd : AllByRecursion (SoundTask cores) tail = all_right (SoundTask cores) r.before tail (subst (AllByRecursion (SoundTask cores)) r.split (all_kept_by (λ j. eqb j.core c) (SoundTask cores) tasks fit.sound)) in
     let nothing : demand_of tail t ≡ 0 = late_all cores t r.task.deadline tail snd (omega arith, ord.0) r.after_t in
     omega (arith, r.bound, All-get_or (RegionFits (first_deadline l) r.before r.task.deadline) (list_of r.task.regions) r.k 0 r.in_task (fit.region_fits c r.before r.task r.later r.split) t low r.after_t, demand_is r.before t)
 
-pub fresh : (cores c d now : ℕ) (tasks : List Assigned) (ss : List Slot) → Schedulable cores tasks → tasks_in ss ≡ tasks → All (Fine cores 1 now) ss
+pub fresh : (cores c d now : ℕ) (tasks : List Assigned) (ss : List Slot) → Schedulable cores tasks → tasks_in ss ≡ tasks → AllByRecursion (Fine cores 1 now) ss
     → sum_of (count_on c within) ss ≤ 1 → sum_of (count_on c (pending d)) ss ≡ 0 → 1 ≤ sum_of (count_on c (could d now)) ss → now + sum_of (count_on c (weight d now)) ss ≤ d
 fresh cores c d now tasks ss fit same a one p h =
     let later : now + 1 ≤ d = could_low c d now 1 ss (all_kept_by (λ j. eqb j.core c) (λ j. 1 ≤ j.deadline) (tasks_in ss) (All-map (λ j. 1 ≤ j.deadline) (λ s. s.task) ss (All-weaker (Fine cores 1 now) (λ s. 1 ≤ s.task.deadline) (λ s f. f.sound.some_time) ss a))) h in

@@ -1,6 +1,6 @@
 -- The regions of a task in range: there is one, none is empty, and they add up to the load. Assumes nothing.
 use Rattle.std.proofs.Common.{◌≡◌, ℕ, ◌+◌, ◌<◌, ◌≤◌, Bool, true, false, leb, List, [], ◌∷◌, length, refl, arith}
-use Rattle.std.specs.List.{AllByRecursion as All}
+use Rattle.std.specs.List.{AllByRecursion}
 use Rattle.std.proofs.lemmas.Bool.{and_parts, leb-true}
 use Rattle.tasks.specs.Tasks.{Task, between, every, in_range, points_match}
 use Rattle.cuts.specs.Regions.{regions_of}
@@ -12,12 +12,12 @@ pub record Times (t : Task) : Type 0 where
   pub low : 1 ≤ t.deadline
   pub high : t.deadline ≤ t.period
   pub short : t.period ≤ 1000000
-  pub lengths : All (λ n. 1 ≤ n) t.blocks
+  pub lengths : AllByRecursion (λ n. 1 ≤ n) t.blocks
 
 between_is : (low high n : ℕ) → between low high n ≡ true → (low ≤ n) × (n ≤ high)
 between_is low high n h = let a = and_parts (leb low n) (leb n high) h in (leb-true low n a.0, leb-true n high a.1)
 
-every_low : (low high : ℕ) (ns : List ℕ) → every (between low high) ns ≡ true → All (λ n. low ≤ n) ns
+every_low : (low high : ℕ) (ns : List ℕ) → every (between low high) ns ≡ true → AllByRecursion (λ n. low ≤ n) ns
 every_low low high [] h = tt
 every_low low high (n ∷ ns) h =
     let hs = and_parts (between low high n) (every (between low high) ns) h in
@@ -56,7 +56,7 @@ from_some n (b ∷ bs) (p ∷ ps) [] = from_some (n + b) bs ps []
 from_some n (b ∷ bs) (p ∷ ps) (false ∷ cuts) = from_some (n + b) bs ps cuts
 from_some n (b ∷ bs) (p ∷ ps) (true ∷ cuts) = omega arith
 
-from-none_empty : (n : ℕ) (bs ps : List ℕ) (cuts : List Bool) → 1 ≤ n → All (λ m. 1 ≤ m) bs → All (λ m. 1 ≤ m) (regions_from n bs ps cuts)
+from-none_empty : (n : ℕ) (bs ps : List ℕ) (cuts : List Bool) → 1 ≤ n → AllByRecursion (λ m. 1 ≤ m) bs → AllByRecursion (λ m. 1 ≤ m) (regions_from n bs ps cuts)
 from-none_empty n [] ps cuts h a = (h, tt)
 from-none_empty n (b ∷ bs) [] cuts h a = from-none_empty (n + b) bs [] [] (omega arith) a.1
 from-none_empty n (b ∷ bs) (p ∷ ps) [] h a = from-none_empty (n + b) bs ps [] (omega arith) a.1
@@ -71,7 +71,7 @@ of_some : (bs ps : List ℕ) (cuts : List Bool) → 1 ≤ length bs → 0 < leng
 of_some [] ps cuts h = absurd (omega arith)
 of_some (b ∷ bs) ps cuts h = from_some b bs ps cuts
 
-of_none_empty : (bs ps : List ℕ) (cuts : List Bool) → All (λ m. 1 ≤ m) bs → All (λ m. 1 ≤ m) (regions_of bs ps cuts)
+of_none_empty : (bs ps : List ℕ) (cuts : List Bool) → AllByRecursion (λ m. 1 ≤ m) bs → AllByRecursion (λ m. 1 ≤ m) (regions_of bs ps cuts)
 of_none_empty [] ps cuts a = tt
 of_none_empty (b ∷ bs) ps cuts a = from-none_empty b bs ps cuts a.0 a.1
 
@@ -82,5 +82,5 @@ module _ (t : Task) (cuts : List Bool) (h : in_range t ≡ true) where
   pub regions_some : 0 < length (regions t cuts)
   regions_some = of_some t.blocks t.points cuts (ranges t h).some
 
-  pub regions-none_empty : All (λ n. 1 ≤ n) (regions t cuts)
+  pub regions-none_empty : AllByRecursion (λ n. 1 ≤ n) (regions t cuts)
   regions-none_empty = of_none_empty t.blocks t.points cuts (times t h).lengths

@@ -1,6 +1,6 @@
 -- What holds at each place of a list. Assumes nothing.
 use Rattle.std.proofs.Common.{◌≡◌, ℕ, zero, suc, ◌+◌, ◌<◌, ◌≤◌, List, [], ◌∷◌, map, Some, sym, subst, arith}
-use Rattle.std.specs.List.{AllByRecursion as All, slice_get}
+use Rattle.std.specs.List.{AllByRecursion, slice_get}
 use Rattle.machine.specs.declared.types.Slot.{Slot}
 use Rattle.machine.specs.Slots.{change_at}
 use Rattle.machine.specs.Law.{Places}
@@ -19,7 +19,7 @@ module _ {X : Type 0} where
   places-every P p [] a = tt
   places-every P p (x ∷ xs) a = (λ c. (a c).0, places-every P (suc p) xs (λ c. (a c).1))
 
-  pub all_places : (P : X → Type 0) (p : ℕ) (xs : List X) → All P xs → Places (λ q x. P x) p xs
+  pub all_places : (P : X → Type 0) (p : ℕ) (xs : List X) → AllByRecursion P xs → Places (λ q x. P x) p xs
   all_places P p [] a = tt
   all_places P p (x ∷ xs) a = (a.0, all_places P (suc p) xs a.1)
 

@@ -1,6 +1,6 @@
 -- What a plan assigns that is lawful under the EDF test is schedulable. Assumes nothing.
 use Rattle.std.proofs.Common.{◌≡◌, ℕ, ◌+◌, ◌<◌, ◌≤◌, Bool, true, false, cond, eqb, leb, List, [], ◌∷◌, ◌++◌, length, Some, None, Option, sym, refl, ap, ◌∙◌, subst, inl, inr, append_assoc, arith, length-append}
-use Rattle.std.specs.List.{AllByRecursion as All}
+use Rattle.std.specs.List.{AllByRecursion}
 use Rattle.std.proofs.ByRecursion.{all_kept_by, All-weaker}
 use Rattle.std.proofs.lemmas.List.{append-nil, map-append}
 use Rattle.std.proofs.lemmas.Bool.{cond-true, cond-false, cases_Bool, eqb-true, eqb-false, and_parts, and_from, le-leb, leb-true}
@@ -69,17 +69,17 @@ sound-task limit table before t r a h is s =
       some_time = omega (arith, is.deadline, ts.low);
       in_period = omega (arith, is.deadline, is.period, ts.high);
       some_region = subst (λ (ns : List ℕ). 0 < length ns) (sym is.lengths) (regions_some t r.cuts h);
-      none_empty = subst (All (λ n. 1 ≤ n)) (sym is.lengths) (regions-none_empty t r.cuts h);
+      none_empty = subst (AllByRecursion (λ n. 1 ≤ n)) (sym is.lengths) (regions-none_empty t r.cuts h);
     }
 
-sound_all : (limit : List Entry → ℕ → Option ℕ) (table : Table) (before : List Placed) {ts : List Task} {rs : List Row} {assigned : List Assigned} → every in_range ts ≡ true → Along ts rs assigned → Fits limit table before ts rs → All (SoundTask table.cores) assigned
+sound_all : (limit : List Entry → ℕ → Option ℕ) (table : Table) (before : List Placed) {ts : List Task} {rs : List Row} {assigned : List Assigned} → every in_range ts ≡ true → Along ts rs assigned → Fits limit table before ts rs → AllByRecursion (SoundTask table.cores) assigned
 sound_all limit table before h none f = tt
 sound_all limit table before h (more {t} {ts} {r} {rs} {a} is all) f =
     let hs = and_parts (in_range t) (every in_range ts) h in
     (sound-task limit table before t r a hs.0 is f.0, sound_all limit table (before ++ place table t r ∷ []) hs.1 all f.1)
 
 -- the tasks are in order of deadline, and so are those of a core
-ordered_all : (d : ℕ) {ts : List Task} {rs : List Row} {assigned : List Assigned} → ordered_from d ts ≡ true → Along ts rs assigned → All (λ a. d ≤ a.deadline) assigned × Ordered assigned
+ordered_all : (d : ℕ) {ts : List Task} {rs : List Row} {assigned : List Assigned} → ordered_from d ts ≡ true → Along ts rs assigned → AllByRecursion (λ a. d ≤ a.deadline) assigned × Ordered assigned
 ordered_all d h none = (tt, tt)
 ordered_all d h (more {t} {ts} {r} {rs} {a} {rest} is all) =
     let hs = and_parts (leb d t.deadline) (ordered_from t.deadline ts) h in
@@ -89,7 +89,7 @@ ordered_all d h (more {t} {ts} {r} {rs} {a} {rest} is all) =
       (All-weaker (λ u. t.deadline ≤ u.deadline) (λ u. a.deadline ≤ u.deadline) (λ u l. omega (arith, is.deadline)) rest ih.0, ih.1),
     )
 
-ordered_if : (b : Bool) (a : Assigned) (l : List Assigned) → All (λ u. a.deadline ≤ u.deadline) l → Ordered l → Ordered (cond b (a ∷ l) l)
+ordered_if : (b : Bool) (a : Assigned) (l : List Assigned) → AllByRecursion (λ u. a.deadline ≤ u.deadline) l → Ordered l → Ordered (cond b (a ∷ l) l)
 ordered_if true a l low o = (low, o)
 ordered_if false a l low o = o
 
@@ -101,7 +101,7 @@ ordered-on c (a ∷ l) o = ordered_if (eqb a.core c) a (tasks_on c l) (all_kept_
 module _ (limit : List Entry → ℕ → Option ℕ) (table : Table) (c : ℕ) where
   -- no region of the task is longer than the limit behind these entries
   abbrev Limited : List Entry → Assigned → Type 0
-  Limited xs i = All (Within (limit xs i.deadline)) (list_of i.regions)
+  Limited xs i = AllByRecursion (Within (limit xs i.deadline)) (list_of i.regions)
 
   head_limited : (done : List Placed) (t : Task) (r : Row) (a : Assigned) (rest : List Assigned) (i : Assigned) (after : List Assigned) → in_range t ≡ true → IsAssigned t r a → a.core ≡ c → Suits limit table done t r
       → ((before : List Assigned) → rest ≡ before ++ i ∷ after → Limited (on_core c (done ++ place table t r ∷ []) ++ entries_of before) i)
@@ -111,8 +111,8 @@ module _ (limit : List Entry → ℕ → Option ℕ) (table : Table) (c : ℕ) w
       let entries : on_core r.core done ≡ on_core c done ++ [] = ap (λ n. on_core n done) (sym is.core ∙ on) ∙ sym (append-nil (on_core c done)) in
       subst (Limited (on_core c done ++ [])) same
       (subst (λ (xs : List Entry). Limited xs a) entries
-      (subst (λ (d : ℕ). All (Within (limit (on_core r.core done) d)) (list_of a.regions)) (sym is.deadline)
-      (subst (All (Within (limit (on_core r.core done) t.deadline))) (sym is.lengths) s.allowed.short)))
+      (subst (λ (d : ℕ). AllByRecursion (Within (limit (on_core r.core done) d)) (list_of a.regions)) (sym is.deadline)
+      (subst (AllByRecursion (Within (limit (on_core r.core done) t.deadline))) (sym is.lengths) s.allowed.short)))
   head_limited done t r a rest i after h is on s later (b ∷ before) e =
       let same : b ≡ a = cc in
       let rests : rest ≡ before ++ i ∷ after = cc in
@@ -145,7 +145,7 @@ region_fits_lem (b ∷ before) i after accepted n within t low high =
     let d : ℕ = i.deadline in
     let xs : List Entry = entries_of (b ∷ before) in
     let ys : List Entry = entry_of i ∷ entries_of after in
-    let ranges : All InRange (xs ++ ys) = in_range_all (xs ++ ys) accepted.0 in
+    let ranges : AllByRecursion InRange (xs ++ ys) = in_range_all (xs ++ ys) accepted.0 in
     let own : InRange (entry_of i) = (all_right InRange xs ys ranges).0 in
     let asked : between 1 1000000 d ≡ true = and_from (leb 1 d) (leb d 1000000) (le-leb 1 d own.deadline_low) (le-leb d 1000000 (omega (arith, own.deadline_high, own.period_high))) in
     let opened : edf_limit xs d ≡ least_slack xs d = guard_open xs d (least_slack xs d) (and_from (sound xs) (between 1 1000000 d) (sound_front xs ys accepted.0) asked) in

@@ -1,6 +1,6 @@
 -- Sums over a list, numbers that count under a test only, a change at one place, and a map. Assumes nothing.
 use Rattle.std.proofs.Common.{◌≡◌, ℕ, ◌+◌, ◌≤◌, Bool, true, false, cond, List, [], ◌∷◌, ◌++◌, map, sym, refl, ap, ◌∙◌, arith}
-use Rattle.std.specs.List.{AllByRecursion as All}
+use Rattle.std.specs.List.{AllByRecursion}
 use Rattle.std.proofs.ByRecursion.{All-map, All-weaker}
 use Rattle.std.proofs.lemmas.Bool.{cond-true}
 
@@ -39,27 +39,27 @@ guard_none false n e = refl
 
 module _ {X : Type 0} where
   -- sums of what is mapped, element by element
-  pub map-sum : (P : X → Type 0) (g : X → X) (f h k : X → ℕ) → ((x : X) → P x → f (g x) + h x ≤ k x) → (xs : List X) → All P xs → sum_of f (map g xs) + sum_of h xs ≤ sum_of k xs
+  pub map-sum : (P : X → Type 0) (g : X → X) (f h k : X → ℕ) → ((x : X) → P x → f (g x) + h x ≤ k x) → (xs : List X) → AllByRecursion P xs → sum_of f (map g xs) + sum_of h xs ≤ sum_of k xs
   map-sum P g f h k e [] a = omega arith
   map-sum P g f h k e (x ∷ xs) a = omega (arith, e x a.0, map-sum P g f h k e xs a.1)
 
-  pub map_le : (P : X → Type 0) (g : X → X) (f k : X → ℕ) → ((x : X) → P x → f (g x) ≤ k x) → (xs : List X) → All P xs → sum_of f (map g xs) ≤ sum_of k xs
+  pub map_le : (P : X → Type 0) (g : X → X) (f k : X → ℕ) → ((x : X) → P x → f (g x) ≤ k x) → (xs : List X) → AllByRecursion P xs → sum_of f (map g xs) ≤ sum_of k xs
   map_le P g f k e [] a = omega arith
   map_le P g f k e (x ∷ xs) a = omega (arith, e x a.0, map_le P g f k e xs a.1)
 
-  pub sum_split : (P : X → Type 0) (f h k : X → ℕ) → ((x : X) → P x → f x ≤ h x + k x) → (xs : List X) → All P xs → sum_of f xs ≤ sum_of h xs + sum_of k xs
+  pub sum_split : (P : X → Type 0) (f h k : X → ℕ) → ((x : X) → P x → f x ≤ h x + k x) → (xs : List X) → AllByRecursion P xs → sum_of f xs ≤ sum_of h xs + sum_of k xs
   sum_split P f h k e [] a = omega arith
   sum_split P f h k e (x ∷ xs) a = omega (arith, e x a.0, sum_split P f h k e xs a.1)
 
-  pub map_all : (P Q : X → Type 0) (g : X → X) → ((x : X) → P x → Q (g x)) → (xs : List X) → All P xs → All Q (map g xs)
+  pub map_all : (P Q : X → Type 0) (g : X → X) → ((x : X) → P x → Q (g x)) → (xs : List X) → AllByRecursion P xs → AllByRecursion Q (map g xs)
   map_all P Q g e xs a = All-map Q g xs (All-weaker P (λ x. Q (g x)) e xs a)
 
-  pub all_right : (P : X → Type 0) (xs ys : List X) → All P (xs ++ ys) → All P ys
+  pub all_right : (P : X → Type 0) (xs ys : List X) → AllByRecursion P (xs ++ ys) → AllByRecursion P ys
   all_right P [] ys a = a
   all_right P (x ∷ xs) ys a = all_right P xs ys a.1
 
   -- what holds of each element that counts at most the sum, whatever is counted
-  pub all_from : (P Q : X → Type 0) (xs : List X) → All P xs → ((x : X) → P x → ((f : X → ℕ) → f x ≤ sum_of f xs) → Q x) → All Q xs
+  pub all_from : (P Q : X → Type 0) (xs : List X) → AllByRecursion P xs → ((x : X) → P x → ((f : X → ℕ) → f x ≤ sum_of f xs) → Q x) → AllByRecursion Q xs
   all_from P Q [] a e = tt
   all_from P Q (x ∷ xs) a e = (e x a.0 (λ f. omega arith), all_from P Q xs a.1 (λ y p m. e y p (λ f. omega (arith, m f))))
 
@@ -69,20 +69,20 @@ pub data Change {X : Type 0} (Q : X → Type 0) (g : X → X) : List X → List 
   there : {x : X} {xs ys : List X} → Change Q g xs ys → Change Q g (x ∷ xs) (x ∷ ys)
 
 module _ {X : Type 0} (P Q : X → Type 0) (g : X → X) where
-  pub change_le : (f : X → ℕ) (a b : ℕ) → ((x : X) → P x → Q x → f (g x) + a ≤ f x + b) → {xs ys : List X} → All P xs → Change Q g xs ys → sum_of f ys + a ≤ sum_of f xs + b
+  pub change_le : (f : X → ℕ) (a b : ℕ) → ((x : X) → P x → Q x → f (g x) + a ≤ f x + b) → {xs ys : List X} → AllByRecursion P xs → Change Q g xs ys → sum_of f ys + a ≤ sum_of f xs + b
   change_le f a b e ps (here {x} q) = omega (arith, e x ps.0 q)
   change_le f a b e ps (there ch) = omega (arith, change_le f a b e ps.1 ch)
 
-  pub change_ge : (f : X → ℕ) (a b : ℕ) → ((x : X) → P x → Q x → f x + a ≤ f (g x) + b) → {xs ys : List X} → All P xs → Change Q g xs ys → sum_of f xs + a ≤ sum_of f ys + b
+  pub change_ge : (f : X → ℕ) (a b : ℕ) → ((x : X) → P x → Q x → f x + a ≤ f (g x) + b) → {xs ys : List X} → AllByRecursion P xs → Change Q g xs ys → sum_of f xs + a ≤ sum_of f ys + b
   change_ge f a b e ps (here {x} q) = omega (arith, e x ps.0 q)
   change_ge f a b e ps (there ch) = omega (arith, change_ge f a b e ps.1 ch)
 
   -- the change adds at most what h counts
-  pub change_add : (f h : X → ℕ) → ((x : X) → P x → Q x → f (g x) ≤ f x + h x) → {xs ys : List X} → All P xs → Change Q g xs ys → sum_of f ys ≤ sum_of f xs + sum_of h xs
+  pub change_add : (f h : X → ℕ) → ((x : X) → P x → Q x → f (g x) ≤ f x + h x) → {xs ys : List X} → AllByRecursion P xs → Change Q g xs ys → sum_of f ys ≤ sum_of f xs + sum_of h xs
   change_add f h e ps (here {x} q) = omega (arith, e x ps.0 q)
   change_add f h e ps (there ch) = omega (arith, change_add f h e ps.1 ch)
 
-  pub change_all : ((x : X) → P x → Q x → P (g x)) → {xs ys : List X} → All P xs → Change Q g xs ys → All P ys
+  pub change_all : ((x : X) → P x → Q x → P (g x)) → {xs ys : List X} → AllByRecursion P xs → Change Q g xs ys → AllByRecursion P ys
   change_all e a (here {x} q) = (e x a.0 q, a.1)
   change_all e a (there ch) = (a.0, change_all e a.1 ch)
 

@@ -1,6 +1,6 @@
 -- The invariant of the machine, and that a tick keeps it. Assumes nothing.
 use Rattle.std.proofs.Common.{◌≡◌, ℕ, zero, suc, ◌+◌, ◌≤◌, true, false, leb, List, [], ◌∷◌, sym, refl, ◌∙◌, subst, inl, inr, arith}
-use Rattle.std.specs.List.{AllByRecursion as All}
+use Rattle.std.specs.List.{AllByRecursion}
 use Rattle.std.proofs.ByRecursion.{All-get_or, All-weaker}
 use Rattle.std.proofs.lemmas.Bool.{le-leb, cond_both, cases_Bool, eqb-true, ne_eqb, both_ways, cond-true, cond-false, cases_eq}
 use Rattle.bounded.specs.Lists.{list_of}
@@ -19,7 +19,7 @@ use Rattle.machine.proofs.Enter.{Chosen, Entered, stays, begins, entered}
 -- and if some job of a core is due by d, the clock and all that the core has to do by d come to at most d.
 pub record Invariant (cores slack now : ℕ) (tasks : List Assigned) (ss : List Slot) : Type 0 where
   pub same : tasks_in ss ≡ tasks
-  pub fine : All (Fine cores slack now) ss
+  pub fine : AllByRecursion (Fine cores slack now) ss
   pub one : (c : ℕ) → sum_of (count_on c within) ss ≤ 1
   pub fits : (c d : ℕ) → 1 ≤ sum_of (count_on c (pending d)) ss → now + sum_of (count_on c (weight d now)) ss ≤ d
 
@@ -131,7 +131,7 @@ pends_some d Idle due = omega arith
 pends_some d (Ready k) due = cond_both (leb due d) 1 0 (λ n. n ≤ 1 + 0) (λ _. omega arith) (λ _. omega arith)
 pends_some d (Inside k left) due = cond_both (leb due d) 1 0 (λ n. n ≤ 0 + 1) (λ _. omega arith) (λ _. omega arith)
 
-core_known : (cores slack now c : ℕ) (f : Slot → ℕ) (ss : List Slot) → All (Fine cores slack now) ss → 1 ≤ sum_of (count_on c f) ss → (1 ≤ c) × (c ≤ cores)
+core_known : (cores slack now c : ℕ) (f : Slot → ℕ) (ss : List Slot) → AllByRecursion (Fine cores slack now) ss → 1 ≤ sum_of (count_on c f) ss → (1 ≤ c) × (c ≤ cores)
 core_known cores slack now c f [] a h = absurd (omega arith)
 core_known cores slack now c f (s ∷ ss) a h = elim (cases_Bool (runs_on c s)) [
   | inl e ↦ let q : s.task.core ≡ c = eqb-true s.task.core c e in (omega (arith, a.0.sound.low), omega (arith, a.0.sound.high))

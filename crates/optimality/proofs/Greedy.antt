@@ -1,7 +1,7 @@
 -- For fixed cores, the chosen cuts task by task are no worse than those of any lawful plan. Assumes nothing but the laws of the test.
 use Rattle.std.proofs.Common.{◌≡◌, ℕ, suc, ◌+◌, ◌*◌, ◌≤◌, Bool, true, false, cond, eqb, List, [], ◌∷◌, ◌++◌, map, length, Some, None, Option, sym, refl, ap, ◌∙◌, subst, inl, inr, append_assoc, mul-le-mul_left, arith, length-append}
 use lib.ListN.{length-map}
-use Rattle.std.specs.List.{AllZip, AllByRecursion as All}
+use Rattle.std.specs.List.{AllZip, AllByRecursion}
 use Rattle.std.proofs.lemmas.List.{append-nil, nil_from_length}
 use Rattle.std.proofs.lemmas.List.Elements.{AllZip-push, length_all_zip}
 use Rattle.std.proofs.ByRecursion.{All-weaker}
@@ -89,7 +89,7 @@ module _ (table : Table) where
   cost_le (t ∷ ts) (r ∷ rs) (q ∷ qs) d = omega (arith, mul-le-mul_left (weight table t) (rank_le t r.cuts q.cuts d.1), cost_le ts rs qs d.2)
 
   -- where the costs are the same, the flags are no later
-  pub marks_no_later : (ts : List Task) (rs qs : List Row) → All (λ t. 1 ≤ weight table t) ts → Dom ts rs qs → cost_of table ts qs ≤ cost_of table ts rs → NoLater (marks ts rs) (marks ts qs)
+  pub marks_no_later : (ts : List Task) (rs qs : List Row) → AllByRecursion (λ t. 1 ≤ weight table t) ts → Dom ts rs qs → cost_of table ts qs ≤ cost_of table ts rs → NoLater (marks ts rs) (marks ts qs)
   marks_no_later ts [] qs w d h = tt
   marks_no_later [] (r ∷ rs) qs w d h = absurd d
   marks_no_later (t ∷ ts) (r ∷ rs) [] w d h = absurd d
@@ -112,7 +112,7 @@ module _ (limit : List Entry → ℕ → Option ℕ) (table : Table) where
   fits_length before (t ∷ ts) [] f = absurd f
   fits_length before (t ∷ ts) (q ∷ qs) f = omega (arith, fits_length (before ++ place table t q ∷ []) ts qs f.1)
 
-  pub fits_cores : (before : List Placed) (ts : List Task) (qs : List Row) → Fits limit table before ts qs → All (λ c. (1 ≤ c) × (c ≤ table.cores)) (cores qs)
+  pub fits_cores : (before : List Placed) (ts : List Task) (qs : List Row) → Fits limit table before ts qs → AllByRecursion (λ c. (1 ≤ c) × (c ≤ table.cores)) (cores qs)
   fits_cores before [] [] f = tt
   fits_cores before [] (q ∷ qs) f = absurd f
   fits_cores before (t ∷ ts) [] f = absurd f
@@ -165,7 +165,7 @@ module _ {accepts : List Entry → Type 0} {limit : List Entry → ℕ → Optio
         laws.lighter (on_core c s.0) mine l (fewer_all (on_core c s.1) (on_core c s.0) (subst accepts e (h c some')))
 
     -- the chosen cuts of given cores make the choice among the lawful plans on these cores
-    pub greedy_least : (rs qs : List Row) → All (λ t. 1 ≤ weight table t) table.tasks → Greedy limit table [] table.tasks rs
+    pub greedy_least : (rs qs : List Row) → AllByRecursion (λ t. 1 ≤ weight table t) table.tasks → Greedy limit table [] table.tasks rs
         → Lawful accepts limit table qs → cores qs ≡ cores rs → NoLater (rank table rs) (rank table qs)
     greedy_least rs qs w g law e =
         let ts = table.tasks in

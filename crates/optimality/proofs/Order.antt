@@ -1,6 +1,6 @@
 -- Dictionary order: beginnings, what comes before them, and what comes no later. Assumes nothing.
 use Rattle.std.proofs.Common.{◌≡◌, ℕ, suc, ◌<◌, ◌≤◌, ◌⊎◌, List, [], ◌∷◌, ◌++◌, length, refl, inl, inr, arith}
-use Rattle.std.specs.List.{AllByRecursion as All}
+use Rattle.std.specs.List.{AllByRecursion}
 use Rattle.std.proofs.lemmas.Bool.{cases_lt}
 use Rattle.cuts.specs.Orders.{NoLater}
 use Rattle.optimality.specs.Beginnings.{Before}
@@ -55,7 +55,7 @@ begins_next (x ∷ xs) [] c b = inl (omega arith)
 begins_next (x ∷ xs) (p ∷ ps) c b = inr (b.0, begins_next xs ps c b.1)
 
 -- one place deeper, at the least number
-pub before_deeper : (xs ps : List ℕ) → All (λ x. 1 ≤ x) xs → Before xs (ps ++ 1 ∷ []) → Before xs ps
+pub before_deeper : (xs ps : List ℕ) → AllByRecursion (λ x. 1 ≤ x) xs → Before xs (ps ++ 1 ∷ []) → Before xs ps
 before_deeper [] ps a b = absurd b
 before_deeper (x ∷ xs) [] a (inl h) = omega arith
 before_deeper (x ∷ []) [] a (inr d) = absurd d.1
@@ -77,7 +77,7 @@ before_split (x ∷ xs) (p ∷ ps) qs (inl h) = inl (inl h)
 before_split (x ∷ xs) (p ∷ ps) qs (inr d) = elim (before_split xs ps qs d.1) [ inl b ↦ inl (inr (d.0, b)) | inr b ↦ inr (d.0, b) ]
 
 -- every number is below c, so all that begins with ps and is longer comes before ps and c
-pub begins_below : (xs ps : List ℕ) (c : ℕ) → All (λ x. x < c) xs → length ps < length xs → Begins xs ps → Before xs (ps ++ c ∷ [])
+pub begins_below : (xs ps : List ℕ) (c : ℕ) → AllByRecursion (λ x. x < c) xs → length ps < length xs → Begins xs ps → Before xs (ps ++ c ∷ [])
 begins_below [] ps c a l b = absurd (omega arith)
 begins_below (x ∷ xs) [] c a l b = inl a.0
 begins_below (x ∷ xs) (p ∷ ps) c a l b = inr (b.0, begins_below xs ps c a.1 (omega arith) b.1)

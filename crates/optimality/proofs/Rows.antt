@@ -1,7 +1,7 @@
 -- Each row of the choice has the chosen cuts. Assumes nothing but the laws of the test.
 use Rattle.std.proofs.Common.{◌≡◌, ℕ, zero, suc, ◌*◌, ◌<◌, ◌≤◌, Bool, true, List, [], ◌∷◌, ◌++◌, map, length, get_or, take, Some, None, Option, sym, refl, ap, ◌∙◌, subst, append_assoc, mul-le-mul_left, arith}
 use native.Mathlib.Nat.{le_of_mul-le-mul_left}
-use Rattle.std.specs.List.{AllZip, AllByRecursion as All}
+use Rattle.std.specs.List.{AllZip, AllByRecursion}
 use Rattle.std.proofs.lemmas.List.{append-nil}
 use Rattle.std.proofs.lemmas.List.Elements.{AllZip-push}
 use Rattle.std.proofs.lemmas.Bool.{and_parts}
@@ -49,7 +49,7 @@ greedy_at limit table before (x ∷ ts) (q ∷ rs) g l (suc i) t r h =
     (greedy_at limit table (before ++ place table x q ∷ []) ts rs g.3 (omega arith) i t r (omega arith))
 
 -- rows that fit and agree with chosen ones in cores, cost and flags have the chosen cuts
-same_greedy : (limit : List Entry → ℕ → Option ℕ) (table : Table) (before : List Placed) (ts : List Task) (gs rs : List Row) → All (λ t. 1 ≤ weight table t) ts
+same_greedy : (limit : List Entry → ℕ → Option ℕ) (table : Table) (before : List Placed) (ts : List Task) (gs rs : List Row) → AllByRecursion (λ t. 1 ≤ weight table t) ts
     → length gs ≡ length ts → Dom ts gs rs → cost_of table ts rs ≤ cost_of table ts gs → marks ts gs ≡ marks ts rs
     → Greedy limit table before ts gs → Fits limit table before ts rs → Greedy limit table before ts rs
 same_greedy limit table before ts gs [] w l d h m g f = tt

@@ -1,6 +1,6 @@
 -- What a search through the core numbers in dictionary order knows at each step. Assumes nothing but the laws of the test.
 use Rattle.std.proofs.Common.{◌≡◌, ℕ, suc, ◌+◌, ◌<◌, ◌≤◌, Bool, List, [], ◌∷◌, ◌++◌, length, get_or, Some, None, Option, sym, refl, ap, ◌∙◌, subst, inl, inr, append_assoc, arith, length-append, MatchOption}
-use Rattle.std.specs.List.{AllZip, AllByRecursion as All}
+use Rattle.std.specs.List.{AllZip, AllByRecursion}
 use Rattle.std.proofs.lemmas.List.{append-nil}
 use Rattle.std.proofs.lemmas.List.Elements.{AllZip-push}
 use Rattle.std.proofs.ByRecursion.{All-weaker}
@@ -121,13 +121,13 @@ module _ {accepts : List Entry → Type 0} {limit : List Entry → ℕ → Optio
       let n = next_allowed (before ++ place table x r ∷ []) (before' ++ place table x q ∷ []) ts rs qs t c h low g.3 f.1 b.1 in
       (n.0, subst (λ (ps : List Placed). Allowed (limit (on_core c ps) t.deadline) t n.0) (append_assoc before (place table x r ∷ []) (places table ts rs)) n.1)
 
-  within : (qs : List Row) → Lawful accepts limit table qs → All (λ c. (1 ≤ c) × (c ≤ table.cores)) (cores qs)
+  within : (qs : List Row) → Lawful accepts limit table qs → AllByRecursion (λ c. (1 ≤ c) × (c ≤ table.cores)) (cores qs)
   within qs law = fits_cores limit table [] table.tasks qs law.fits
 
-  at_least_one : (qs : List Row) → Lawful accepts limit table qs → All (λ x. 1 ≤ x) (cores qs)
+  at_least_one : (qs : List Row) → Lawful accepts limit table qs → AllByRecursion (λ x. 1 ≤ x) (cores qs)
   at_least_one qs law = All-weaker (λ c. (1 ≤ c) × (c ≤ table.cores)) (λ x. 1 ≤ x) (λ x h. h.0) (cores qs) (within qs law)
 
-  all_below : (c : ℕ) → table.cores < c → (qs : List Row) → Lawful accepts limit table qs → All (λ x. x < c) (cores qs)
+  all_below : (c : ℕ) → table.cores < c → (qs : List Row) → Lawful accepts limit table qs → AllByRecursion (λ x. x < c) (cores qs)
   all_below c h qs law = All-weaker (λ c. (1 ≤ c) × (c ≤ table.cores)) (λ x. x < c) (λ x k. omega (arith, k.1)) (cores qs) (within qs law)
 
   long : (qs : List Row) → Lawful accepts limit table qs → length (cores qs) ≡ length table.tasks
@@ -159,7 +159,7 @@ module _ {accepts : List Entry → Type 0} {limit : List Entry → ℕ → Optio
   leads_back ps c d None h s l = λ qs law b. l qs law (back_before ps c d h s qs law b)
   leads_back ps c d (Some p) h s l = (l.0, back_best (cores p) ps c d l.1, λ qs law b. l.2 qs law (back_before ps c d h s qs law b))
 
-  start_none : (xs : List ℕ) → All (λ x. 1 ≤ x) xs → Before xs (1 ∷ []) → ⊥
+  start_none : (xs : List ℕ) → AllByRecursion (λ x. 1 ≤ x) xs → Before xs (1 ∷ []) → ⊥
   start_none [] a b = b
   start_none (x ∷ xs) a (inl h) = omega (arith, a.0)
   start_none (x ∷ []) a (inr d) = d.1
@@ -225,7 +225,7 @@ module _ {accepts : List Entry → Type 0} {limit : List Entry → ℕ → Optio
       }
 
       -- it is whole, and cheaper than the best so far
-      pub whole : All (λ t. 1 ≤ weight table t) table.tasks → Begun accepts limit table more → length more ≡ length table.tasks
+      pub whole : AllByRecursion (λ t. 1 ≤ weight table t) table.tasks → Begun accepts limit table more → length more ≡ length table.tasks
           → (best : Option (List Row)) → Cheaper table (cost table more) best → Leads accepts limit table (cores rs ++ c ∷ []) best
           → Leads accepts limit table (cores rs ++ suc c ∷ []) (Some more)
       whole w begun' l best cheap h =

@@ -1,6 +1,6 @@
 -- Two cores may change their numbers: so a core need not be tried while it and a lower one are empty. Assumes nothing.
 use Rattle.std.proofs.Common.{◌≡◌, ℕ, ◌+◌, ◌<◌, ◌≤◌, cond, eqb, List, [], ◌∷◌, ◌++◌, map, Some, None, Option, sym, refl, ap, ◌∙◌, subst, inl, inr, arith}
-use Rattle.std.specs.List.{AllByRecursion as All}
+use Rattle.std.specs.List.{AllByRecursion}
 use Rattle.std.proofs.lemmas.List.{map-append}
 use Rattle.std.proofs.lemmas.Bool.{cases_eq}
 use Rattle.std.proofs.lemmas.Bool.Decides.{nat_tests}
@@ -38,7 +38,7 @@ swap_within a b x m al ah bl bh xl xh = (grind (arith, nat_tests), grind (arith,
 
 -- a core with no entry has no row
 no_row : (limit : List Entry → ℕ → Option ℕ) (table : Table) (before : List Placed) (c : ℕ) (ts : List Task) (rs : List Row) → Greedy limit table before ts rs
-    → on_core c (places table ts rs) ≡ [] → All (λ x. x ≡ c → ⊥) (cores rs)
+    → on_core c (places table ts rs) ≡ [] → AllByRecursion (λ x. x ≡ c → ⊥) (cores rs)
 no_row limit table before c ts [] g e = tt
 no_row limit table before c [] (r ∷ rs) g e = absurd g
 no_row limit table before c (t ∷ ts) (r ∷ rs) g e = elim (cases_eq r.core c) [
@@ -63,7 +63,7 @@ module _ (a b : ℕ) where
   on_moved c (p ∷ ps) = λ i. cond (swap_test a b p.core c i) (p.entry ∷ on_moved c ps i) (on_moved c ps i)
 
   -- where neither core has been used yet, the turned plan comes earlier
-  before_turned : (qs : List Row) (ps : List ℕ) → a < b → All (λ x. x ≡ a → ⊥) ps → All (λ x. x ≡ b → ⊥) ps → Begins (cores qs) (ps ++ b ∷ []) → Before (cores (turns qs)) (ps ++ b ∷ [])
+  before_turned : (qs : List Row) (ps : List ℕ) → a < b → AllByRecursion (λ x. x ≡ a → ⊥) ps → AllByRecursion (λ x. x ≡ b → ⊥) ps → Begins (cores qs) (ps ++ b ∷ []) → Before (cores (turns qs)) (ps ++ b ∷ [])
   before_turned [] [] lt na nb g = absurd g
   before_turned [] (p ∷ ps) lt na nb g = absurd g
   before_turned (q ∷ qs) [] lt na nb g = inl (subst (λ (x : ℕ). swap a b x < b) (sym g.0) (subst (λ (x : ℕ). x < b) (sym (swap_second a b)) lt))
@@ -112,7 +112,7 @@ passed_over accepts limit table rs core best high g spare leads qs law begins =
     lower : ℕ
     lower = spare.lower
 
-    unused : (c : ℕ) → on_core c (places table table.tasks rs) ≡ [] → All (λ x. x ≡ c → ⊥) (cores rs)
+    unused : (c : ℕ) → on_core c (places table table.tasks rs) ≡ [] → AllByRecursion (λ x. x ≡ c → ⊥) (cores rs)
     unused c e = no_row limit table [] c table.tasks rs g e
 
     turned : List Row

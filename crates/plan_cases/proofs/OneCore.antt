@@ -1,6 +1,6 @@
 -- Plans of two tasks on one core. Assumes nothing but the laws of the test.
 use Rattle.std.proofs.Common.{◌≡◌, ℕ, ◌≤◌, Bool, true, List, [], ◌∷◌, length, None, Option, refl, ◌∙◌, inl, inr, arith}
-use Rattle.std.specs.List.{AllByRecursion as All}
+use Rattle.std.specs.List.{AllByRecursion}
 use Rattle.tasks.specs.Tasks.{Task, Table, table_rules}
 use Rattle.tasks.specs.Cuts.{load}
 use Rattle.coretests.specs.declared.entry.Entry.{Entry}
@@ -20,7 +20,7 @@ abbrev pub seen : Task → List Bool → Entry
 seen t cuts = record { period = t.period; deadline = t.deadline; load = load t cuts }
 
 -- two numbers that can only be 1
-ones : (cs : List ℕ) → length cs ≡ 2 → All (λ c. (1 ≤ c) × (c ≤ 1)) cs → Begins cs (1 ∷ 1 ∷ [])
+ones : (cs : List ℕ) → length cs ≡ 2 → AllByRecursion (λ c. (1 ≤ c) × (c ≤ 1)) cs → Begins cs (1 ∷ 1 ∷ [])
 ones [] l a = absurd (omega arith)
 ones (c ∷ []) l a = absurd (omega arith)
 ones (c ∷ d ∷ cs) l a = (omega arith, (omega (arith, a.1.0), tt))

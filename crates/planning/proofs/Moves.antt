@@ -1,7 +1,7 @@
 -- What each move of the search keeps. Assumes nothing but the laws of the test.
 use Rattle.std.proofs.Common.{◌≡◌, ℕ, suc, ◌+◌, ◌-◌, ◌*◌, ◌<◌, ◌≤◌, Bool, true, false, List, [], ◌∷◌, ◌++◌, length, Some, None, Option, sym, refl, ap, ◌∙◌, subst, add-one, arith, length-append}
 use Rattle.std.specs.Option.{option_map}
-use Rattle.std.specs.List.{AllByRecursion as All}
+use Rattle.std.specs.List.{AllByRecursion}
 use Rattle.std.proofs.lemmas.List.{same_from_push, nil_from_length}
 use Rattle.std.proofs.lemmas.Bool.{ltb-true, ltb-false}
 use Rattle.tasks.specs.Tasks.{Task, Table, weight}
@@ -44,7 +44,7 @@ module _ {accepts : List Entry → Type 0} {limit : List Entry → ℕ → Optio
     placed_are = over.placed_are;
     price_is = over.price_is;
     begun = over.begun;
-    leads = subst (λ (k : ℕ). Leads accepts limit table (cores rs ++ k ∷ []) in_hand) (sym (add-one core)) (steps.leads-next laws table (cores rs) core in_hand beaten over.leads);
+    leads = subst (λ (k : ℕ). Leads accepts limit table (cores rs ++ k ∷ []) in_hand) (sym (add-one core)) (steps.leads_next laws table (cores rs) core in_hand beaten over.leads);
     priced = over.priced;
   }
 
@@ -88,7 +88,7 @@ module _ {accepts : List Entry → Type 0} {limit : List Entry → ℕ → Optio
       leads_k = subst (λ (x : ℕ). Leads accepts limit table (cores rs ++ x ∷ []) in_hand) (sym core_is) over.leads
 
       more_begun : Begun accepts limit table more
-      more_begun = steps.more-begun laws table rs t here over.begun k f.row.cuts k_low k_high least accepted
+      more_begun = steps.more_begun laws table rs t here over.begun k f.row.cuts k_low k_high least accepted
 
       pub price_more : price + f.placed.overhead ≡ cost table more
       price_more = omega (arith, over.price_is, ap (λ (x : Placed). x.overhead) placed_is, cost_push table table.tasks rs t f.row here)
@@ -104,7 +104,7 @@ module _ {accepts : List Entry → Type 0} {limit : List Entry → ℕ → Optio
           go None e pr l = let z : ◌≡◌ {A = ℕ} 0 1 = cc in absurd (omega arith)
           go (Some b) e pr l =
               subst (λ (x : ℕ). Before (cores (rows_of b)) (cores rs ++ x ∷ []) → (qs : List Row) → Lawful accepts limit table qs → Begins (cores qs) (cores rs ++ x ∷ []) → steps.Beaten table (Some (rows_of b)) qs) core_is
-              (steps.too-dear laws table rs t here over.begun k f.row.cuts k_low k_high least (rows_of b) (omega (arith, ltb-false (price + f.placed.overhead) b.cost e, pr, price_more)))
+              (steps.too_dear laws table rs t here over.begun k f.row.cuts k_low k_high least (rows_of b) (omega (arith, ltb-false (price + f.placed.overhead) b.cost e, pr, price_more)))
               l.1
 
       -- ONE TASK FURTHER DOWN
@@ -116,7 +116,7 @@ module _ {accepts : List Entry → Type 0} {limit : List Entry → ℕ → Optio
         placed_are = (λ i. over.placed_are i ++ placed_is i ∷ []) ∙ sym (places_push table table.tasks rs t f.row here);
         price_is = price_more;
         begun = more_begun;
-        leads = subst (λ (x : List ℕ). Leads accepts limit table (x ++ 1 ∷ []) in_hand) (sym (cores_push rs f.row)) (steps.leads-deeper laws table (cores rs ++ k ∷ []) in_hand leads_k);
+        leads = subst (λ (x : List ℕ). Leads accepts limit table (x ++ 1 ∷ []) in_hand) (sym (cores_push rs f.row)) (steps.leads_deeper laws table (cores rs ++ k ∷ []) in_hand leads_k);
         priced = over.priced;
       }
 
@@ -128,7 +128,7 @@ module _ {accepts : List Entry → Type 0} {limit : List Entry → ℕ → Optio
       cheaper None e pr = tt
       cheaper (Some b) e pr = omega (arith, ltb-true (price + f.placed.overhead) b.cost e, pr, price_more)
 
-      pub move_whole : All (λ t. 1 ≤ weight table t) table.tasks → length rs + 1 ≡ length table.tasks → beats (price + f.placed.overhead) best ≡ true → (p : Planned) → rows_of p ≡ more → p.cost ≡ price + f.placed.overhead → Over accepts limit table rs ps (core + 1) price (Some p)
+      pub move_whole : AllByRecursion (λ t. 1 ≤ weight table t) table.tasks → length rs + 1 ≡ length table.tasks → beats (price + f.placed.overhead) best ≡ true → (p : Planned) → rows_of p ≡ more → p.cost ≡ price + f.placed.overhead → Over accepts limit table rs ps (core + 1) price (Some p)
       move_whole heavy full cheap p rows cost_is =
           let led = steps.whole laws table rs t here over.begun k f.row.cuts k_low k_high least heavy more_begun (more-length ∙ full) in_hand (cheaper best cheap over.priced) leads_k in
           record {
@@ -144,7 +144,7 @@ module _ {accepts : List Entry → Type 0} {limit : List Entry → ℕ → Optio
 
   -- THE END
   pub move_end : table.cores < core → ps ≡ [] → Ended accepts limit table best
-  move_end h none = go best over.priced (steps.leads-end laws table core in_hand h (omega (arith, over.short)) (subst (λ (x : List Row). Leads accepts limit table (cores x ++ core ∷ []) in_hand) nothing over.leads))
+  move_end h none = go best over.priced (steps.leads_end laws table core in_hand h (omega (arith, over.short)) (subst (λ (x : List Row). Leads accepts limit table (cores x ++ core ∷ []) in_hand) nothing over.leads))
     where
       nothing : rs ≡ []
       nothing = nil_from_length rs (omega (arith, places-length table table.tasks rs (omega (arith, over.short)), ap length (sym over.placed_are ∙ none)))
@@ -189,7 +189,7 @@ module _ {accepts : List Entry → Type 0} {limit : List Entry → ℕ → Optio
           placed_are = pushed.0;
           price_is = omega (arith, priced_last);
           begun = record { greedy = greedy_pop limit table [] table.tasks rs₀ r begun_last.greedy; held = held_pop laws (places table table.tasks rs₀) (place table t r) (subst (Held accepts) (places_push table table.tasks rs₀ t r here) begun_last.held) };
-          leads = subst (λ (x : ℕ). Leads accepts limit table (cores rs₀ ++ x ∷ []) in_hand) (sym (add-one p.core)) (steps.leads-back laws table (cores rs₀) p.core core in_hand h (omega (arith, cores-length rs₀, length_last, over.short)) led);
+          leads = subst (λ (x : ℕ). Leads accepts limit table (cores rs₀ ++ x ∷ []) in_hand) (sym (add-one p.core)) (steps.leads_back laws table (cores rs₀) p.core core in_hand h (omega (arith, cores-length rs₀, length_last, over.short)) led);
           priced = over.priced;
         }
 

@@ -1,6 +1,6 @@
 -- What holds past a token. Assumes nothing.
 use Rattle.std.proofs.Common.{◌≡◌, ℕ, zero, suc, ◌+◌, ◌<◌, ◌≤◌, eqb, ◌⊎◌, List, [], ◌∷◌, ◌++◌, length, get_or, take, drop, sym, ap, ◌∙◌, subst, inl, inr, arith, length-drop, take-append-drop}
-use Rattle.std.specs.List.{AllByRecursion as All}
+use Rattle.std.specs.List.{AllByRecursion}
 use Rattle.std.proofs.lemmas.List.{drop-drop, length-take-le}
 use Rattle.std.proofs.ByRecursion.{All-weaker}
 use Rattle.std.proofs.lemmas.Bool.Decides.{nat_tests}
@@ -77,7 +77,7 @@ run_some k (x ∷ xs) (suc m) some is stops = omega arith
 
 -- all that `run_len` counts is of P, where P is the class
 pub counted :
-    (P : ℕ → Type 0) (k : Kind) → ((c : ℕ) → class c ≡ k → P c) → ((c : ℕ) → P c → class c ≡ k) → (tail : List ℕ) (m : ℕ) → 0 < length tail → class (get_or tail 0 0) ≡ k → m ≤ length tail → All (λ c. class c ≡ k) (take m tail) → Ends (λ c. class c ≡ k) (drop m tail) → Run P (take m tail) × Ends P (drop m tail)
+    (P : ℕ → Type 0) (k : Kind) → ((c : ℕ) → class c ≡ k → P c) → ((c : ℕ) → P c → class c ≡ k) → (tail : List ℕ) (m : ℕ) → 0 < length tail → class (get_or tail 0 0) ≡ k → m ≤ length tail → AllByRecursion (λ c. class c ≡ k) (take m tail) → Ends (λ c. class c ≡ k) (drop m tail) → Run P (take m tail) × Ends P (drop m tail)
 counted P k to from tail m some is within all stops =
     let long = length-take-le m tail within in
     let more = run_some k tail m some is stops in

@@ -1,7 +1,7 @@
 -- Words, numbers and items: the run over each, and what may stand next. Assumes nothing.
 use Rattle.std.proofs.Common.{◌≡◌, ℕ, ◌+◌, ◌-◌, ◌<◌, ◌≤◌, Bool, true, false, cond, ◌&&◌, eqb, ltb, ◌⊎◌, List, [], ◌∷◌, ◌++◌, length, get_or, take, drop, Some, None, Ok, Err, Result, sym, refl, ap, ◌∙◌, subst, inl, inr, append_assoc, append-nil, arith, take-append-drop, Bor}
 use Rattle.std.proofs.lemmas.Bool.{cond-false, cond-true, le-ltb, lt-ltb}
-use Rattle.std.specs.List.{AllByRecursion as All}
+use Rattle.std.specs.List.{AllByRecursion}
 use Rattle.std.proofs.lemmas.List.{drop_more, length-take-le}
 use Rattle.std.proofs.ByRecursion.{All-take, All-get_or}
 use Rattle.std.proofs.lemmas.Bool.Decides.{nat_tests}
@@ -101,7 +101,7 @@ settled_undone s d bs h e = none_some (sym (ap (λ t. goes t kinds.Space) e) ∙
 
 -- words
 
-letters_run : (w : List ℕ) (d : ℕ) → All IsLetter w → length w ≤ 8 → run (Word d 0) w ≡ Some (Word d (length w))
+letters_run : (w : List ℕ) (d : ℕ) → AllByRecursion IsLetter w → length w ≤ 8 → run (Word d 0) w ≡ Some (Word d (length w))
 letters_run w d all h =
     let none : 0 + length w ≡ length w = omega arith in
     ap (run (Word d 0)) (sym (append-nil w)) ∙ run_word w d 0 [] all (omega arith) ∙ ap (λ n. Some (Word d n)) none
@@ -165,7 +165,7 @@ number_overlong ds at y e = cases (zero_led ds) refl e
     cases true h e = inl (grind (arith, nat_tests), grind (arith, nat_tests), some_is e)
     cases false h e = let q = taken 7 (length ds) (sym e) in let long = q.0 in inr (long, (λ z. grind (arith, nat_tests)), sym q.1)
 
-digits_run : (c : ℕ) (cs : List ℕ) (d : ℕ) → kind c ≡ kinds.Digit → All IsDigit cs → length cs ≤ 6 → run (Item d) (c ∷ cs) ≡ Some (Digits d (length (c ∷ cs)))
+digits_run : (c : ℕ) (cs : List ℕ) (d : ℕ) → kind c ≡ kinds.Digit → AllByRecursion IsDigit cs → length cs ≤ 6 → run (Item d) (c ∷ cs) ≡ Some (Digits d (length (c ∷ cs)))
 digits_run c cs d is all h =
     let count : 1 + length cs ≡ length (c ∷ cs) = omega arith in
     run_step (Item d) (Digits d 1) c cs (ap (goes (Item d)) is) ∙ ap (run (Digits d 1)) (sym (append-nil cs)) ∙ run_digits cs d 1 [] all (omega arith) ∙ ap (λ n. Some (Digits d n)) count
@@ -189,7 +189,7 @@ number_counts : (d : ℕ) (ds bs : List ℕ) → 0 < d → Run IsDigit ds → En
 number_counts d [] bs h r m long led = absurd (omega (arith, r.0))
 number_counts d (c ∷ cs) bs h r m long led = cases cs (figure_kind c r.1.0) r.1.1 long led
   where
-    cases : (cs : List ℕ) → (kind c ≡ kinds.Zero) ⊎ (kind c ≡ kinds.Digit) → All IsDigit cs → length (c ∷ cs) ≤ 7 → (1 < length (c ∷ cs) → c ≡ 48 → ⊥) → Counts d (c ∷ cs) bs
+    cases : (cs : List ℕ) → (kind c ≡ kinds.Zero) ⊎ (kind c ≡ kinds.Digit) → AllByRecursion IsDigit cs → length (c ∷ cs) ≤ 7 → (1 < length (c ∷ cs) → c ≡ 48 → ⊥) → Counts d (c ∷ cs) bs
     cases [] (inl e) all long led = record { state = Zero d; runs = nought_run c d e; settled = nought_settled d bs h }
     cases (b ∷ cs) (inl e) all long led = absurd (led (omega arith) (is_zero c e))
     cases cs (inr e) all long led = record { state = Digits d (length (c ∷ cs)); runs = digits_run c cs d e all (omega arith); settled = digits_settled d (length (c ∷ cs)) bs h m }

@@ -1,6 +1,6 @@
 -- One granted line after another. Assumes nothing.
 use Rattle.std.proofs.Common.{◌≡◌, ℕ, ◌<◌, List, [], ◌∷◌, ◌++◌, length, None, Ok, Err, Result, sym, refl, ap, ◌∙◌, subst, inl, inr, append_assoc, append-nil, arith, length-append}
-use Rattle.std.specs.List.{AllByRecursion as All}
+use Rattle.std.specs.List.{AllByRecursion}
 use Rattle.grammar.specs.Forms.{line}
 use Rattle.fields.specs.Wanted.{value, sheet_form, Written, task_form, IsTask, values_of}
 use Rattle.reader.specs.declared.reader.Reader.{Reader}
@@ -18,7 +18,7 @@ all_added_more : (table after : Table) (ws : List Written) (w : Written) → All
 all_added_more table after [] w a n = (subst (λ t. add_refusal 0 t (values_of w) ≡ None) a n, ap (λ t. with_task t (values_of w)) a)
 all_added_more table after (v ∷ ws) w a n = (a.0, all_added_more (with_task table (values_of v)) after ws w a.1 n)
 
-all_lawful_more : (ws : List Written) (w : Written) → All IsTask ws → IsTask w → All IsTask (ws ++ w ∷ [])
+all_lawful_more : (ws : List Written) (w : Written) → AllByRecursion IsTask ws → IsTask w → AllByRecursion IsTask (ws ++ w ∷ [])
 all_lawful_more [] w a l = (l, tt)
 all_lawful_more (v ∷ ws) w a l = (a.0, all_lawful_more ws w a.1 l)
 

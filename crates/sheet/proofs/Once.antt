@@ -1,6 +1,6 @@
 -- Reading a sheet has one outcome: one table, or one refusal and the one table that it leaves. Assumes nothing.
 use Rattle.std.proofs.Common.{◌≡◌, ℕ, ◌+◌, ◌<◌, ◌⊎◌, List, [], ◌∷◌, ◌++◌, length, Some, None, Option, sym, refl, ap, ◌∙◌, subst, inl, inr, append_assoc, arith, length-append}
-use Rattle.std.specs.List.{AllByRecursion as All}
+use Rattle.std.specs.List.{AllByRecursion}
 use Rattle.grammar.specs.Forms.{Form, Lawful, line}
 use Rattle.grammar.specs.Faults.{Leads}
 use Rattle.grammar.proofs.Steps.{some_is, none_some}
@@ -127,7 +127,7 @@ one_walk table at bs o p t u (goes s g) (goes r h) =
     one_walk _ _ _ o p t u g (carried (λ w tail. Walk (with_task table (values_of w)) (at + length (line (task_form w))) tail p u) same h)
 
 -- granted lines are walked to where they end
-walked : (ws : List Written) (table : Table) (at : ℕ) (left : List ℕ) (o : Option Refusal) (after : Table) (end : ℕ) → All IsTask ws → AllAdded table ws after → end ≡ at + length (task_lines ws) → Ends after end left o → Walk table at (task_lines ws ++ left) o after
+walked : (ws : List Written) (table : Table) (at : ℕ) (left : List ℕ) (o : Option Refusal) (after : Table) (end : ℕ) → AllByRecursion IsTask ws → AllAdded table ws after → end ≡ at + length (task_lines ws) → Ends after end left o → Walk table at (task_lines ws ++ left) o after
 walked [] table at left o after end l a here e =
     let start : end ≡ at = omega arith in
     ends (subst (λ n. Ends table n left o) start (subst (λ t. Ends t end left o) a e)) a

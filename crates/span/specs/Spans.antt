@@ -1,6 +1,6 @@
 -- The span of a list of periods: their least common multiple.
 use Rattle.std.specs.Prelude.{◌≡◌, ℕ, zero, suc, ◌*◌, ◌/◌, ◌%◌, ◌<◌, ◌≤◌, ◌⊎◌, List, [], ◌∷◌, Some, None, Option}
-use Rattle.std.specs.List.{ContainsAt as Has, AllByRecursion as All}
+use Rattle.std.specs.List.{ContainsAt as Has, AllByRecursion}
 
 -- Euclid's algorithm, in at most so many steps
 unfoldable pub gcd_by : ℕ → ℕ → ℕ → ℕ
@@ -27,11 +27,11 @@ span_of ps = span_from 1 ps
 
 -- every number of the list is above 0
 abbrev pub Positive : List ℕ → Type 0
-Positive ps = All (λ p. 0 < p) ps
+Positive ps = AllByRecursion (λ p. 0 < p) ps
 
 -- every number of the list divides m
 abbrev pub CommonMultiple : List ℕ → ℕ → Type 0
-CommonMultiple ps m = All (λ p. m % p ≡ 0) ps
+CommonMultiple ps m = AllByRecursion (λ p. m % p ≡ 0) ps
 
 -- m is above 0, a common multiple, and no greater than any other above 0
 pub record LeastCommonMultiple (ps : List ℕ) (m : ℕ) : Type 0 where

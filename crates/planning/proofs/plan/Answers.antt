@@ -10,12 +10,12 @@ use Rattle.planning.proofs.Next.{count_is, cores_range}
 use Rattle.planning.proofs.Start.{going_start, empty_choice}
 use Rattle.planning.proofs.plan.Goals as goal
 
-pub returns-then-is-empty : goal.returns-then-is-empty
-returns-then-is-empty g c =
+pub returns-then-is_empty : goal.returns-then-is_empty
+returns-then-is_empty g c =
     let x = c.args.test.now in
     let table = sealed c.args.table.now in
     let stored = c.tasks.result.now in
-    let none : stored ≡ [] = nil_from_length stored (eqb-true (length stored) 0 (sym c.is-empty.ensures ∙ c.if-is-empty.true)) in (
+    let none : stored ≡ [] = nil_from_length stored (eqb-true (length stored) 0 (sym c.is_empty.ensures ∙ c.if-is_empty.true)) in (
       empty_choice (g.C.CoreTest.accepts x) (g.C.CoreTest.limit x) table (list_of c.new-walk.result.rows) (sym c.tasks.ensures ∙ ap tasks_of none) c.new-walk.ensures.rows,
       ap (cost table) (sym c.new-walk.ensures.rows),
     )
@@ -27,5 +27,5 @@ loop-init g c =
     let table = sealed c.args.table.now in
     let rules = c.args.table.now.rules in
     let stored = c.tasks.result.now in
-    let some : 0 < length table.tasks = omega (arith, eqb-false (length stored) 0 (sym c.is-empty.ensures ∙ c.if-is-empty.false), count_is table rules stored c.tasks.ensures) in
+    let some : 0 < length table.tasks = omega (arith, eqb-false (length stored) 0 (sym c.is_empty.ensures ∙ c.if-is_empty.false), count_is table rules stored c.tasks.ensures) in
     going_start laws table c.new-walk.result c.new-walk.ensures (cores_range table rules).0 some

@@ -1,6 +1,6 @@
 ghost use Rattle.std.specs.Prelude.{◌≡◌, ◌≤◌, length, take, drop, ◌==◌};
 ghost use Rattle.grammar.specs.Forms.{Ends};
-ghost use Rattle.std.specs.List.{AllByRecursion as All};
+ghost use Rattle.std.specs.List.{AllByRecursion};
 ghost use Rattle.reader.specs.Tokens.{rest, class, spells, TokenSteps};
 
 use crate::reader::{Reader, Token, TokenAt};
@@ -22,7 +22,7 @@ fn class_of(byte: u8) -> Kind
 // How many bytes at the front are of one kind.
 fn run_len(bytes: &[u8], kind: Kind) -> usize
     ensures within { result ≤ length bytes.now }
-    ensures all { All (λ c. class c ≡ kind) (take result bytes.now) }
+    ensures all { AllByRecursion (λ c. class c ≡ kind) (take result bytes.now) }
     ensures stops { Ends (λ c. class c ≡ kind) (drop result bytes.now) }
 {
     let mut n = 0;

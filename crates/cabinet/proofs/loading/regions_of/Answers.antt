@@ -12,30 +12,30 @@ use Rattle.cabinet.proofs.loading.regions_of.Goals.{then-cuts-j, else-cuts-j}
 
 pub loop-j-init : goal.loop-j-init
 loop-j-init c =
-    let bs = c.as-slice-blocks.result.now in
-    let ps = c.as-slice-points.result.now in
-    let r = ranges_at (task_of c.args.task.now) bs ps c.as-slice-blocks.ensures.value c.as-slice-points.ensures.value c.requires in
+    let bs = c.as_slice-blocks.result.now in
+    let ps = c.as_slice-points.result.now in
+    let r = ranges_at (task_of c.args.task.now) bs ps c.as_slice-blocks.ensures.value c.as_slice-points.ensures.value c.requires in
     (ap (λ l. l ++ regions_from (get_or bs 0 0) (drop 1 bs) ps c.args.cuts.now) c.new-ended.ensures ∙ regions-start bs ps c.args.cuts.now r.some, omega (arith, ap length c.new-ended.ensures), omega (arith, first_block r))
 
-pub overflow-add-length-then-cuts-j : goal.overflow-add-length-then-cuts-j
-overflow-add-length-then-cuts-j c =
-    let bs = c.as-slice-blocks.result.now in
-    let ps = c.as-slice-points.result.now in
-    let r = ranges_at (task_of c.args.task.now) bs ps c.as-slice-blocks.ensures.value c.as-slice-points.ensures.value c.requires in
+pub overflow_add-length-then-cuts-j : goal.overflow_add-length-then-cuts-j
+overflow_add-length-then-cuts-j c =
+    let bs = c.as_slice-blocks.result.now in
+    let ps = c.as_slice-points.result.now in
+    let r = ranges_at (task_of c.args.task.now) bs ps c.as_slice-blocks.ensures.value c.as_slice-points.ensures.value c.requires in
     omega (arith, cost_at_lem r c.loop-j.j c.loop-j-test.true, block_after r c.loop-j.j c.loop-j-test.true)
 
-pub overflow-add-length-else-cuts-j-2 : goal.overflow-add-length-else-cuts-j-2
-overflow-add-length-else-cuts-j-2 c =
-    let bs = c.as-slice-blocks.result.now in
-    let ps = c.as-slice-points.result.now in
-    let r = ranges_at (task_of c.args.task.now) bs ps c.as-slice-blocks.ensures.value c.as-slice-points.ensures.value c.requires in
+pub overflow_add-length-else-cuts-j-2 : goal.overflow_add-length-else-cuts-j-2
+overflow_add-length-else-cuts-j-2 c =
+    let bs = c.as_slice-blocks.result.now in
+    let ps = c.as_slice-points.result.now in
+    let r = ranges_at (task_of c.args.task.now) bs ps c.as_slice-blocks.ensures.value c.as_slice-points.ensures.value c.requires in
     omega (arith, block_after r c.loop-j.j c.loop-j-test.true, c.loop-j.invariant.2, r.fewer, r.few)
 
 pub loop-j-preserved : goal.loop-j-preserved
 loop-j-preserved c =
-    let bs = c.as-slice-blocks.result.now in
-    let ps = c.as-slice-points.result.now in
-    let r = ranges_at (task_of c.args.task.now) bs ps c.as-slice-blocks.ensures.value c.as-slice-points.ensures.value c.requires in
+    let bs = c.as_slice-blocks.result.now in
+    let ps = c.as_slice-points.result.now in
+    let r = ranges_at (task_of c.args.task.now) bs ps c.as_slice-blocks.ensures.value c.as_slice-points.ensures.value c.requires in
     let fs = c.args.cuts.now in
     let j = c.loop-j.j in
     let n = c.loop-j.length in
@@ -65,13 +65,13 @@ loop-j-preserved c =
 
 pub returns : goal.returns
 returns c =
-    let bs = c.as-slice-blocks.result.now in
-    let ps = c.as-slice-points.result.now in
-    let r = ranges_at (task_of c.args.task.now) bs ps c.as-slice-blocks.ensures.value c.as-slice-points.ensures.value c.requires in
+    let bs = c.as_slice-blocks.result.now in
+    let ps = c.as_slice-points.result.now in
+    let r = ranges_at (task_of c.args.task.now) bs ps c.as_slice-blocks.ensures.value c.as_slice-points.ensures.value c.requires in
     let fs = c.args.cuts.now in
     let j = c.loop-j.j in
     let done = list_of c.loop-j.ended in
-    let whole : regions_of bs ps fs ≡ regions (task_of c.args.task.now) fs = λ i. regions_of (c.as-slice-blocks.ensures.value i) (c.as-slice-points.ensures.value i) fs in
+    let whole : regions_of bs ps fs ≡ regions (task_of c.args.task.now) fs = λ i. regions_of (c.as_slice-blocks.ensures.value i) (c.as_slice-points.ensures.value i) fs in
     let end = at_drop_all (λ xs. done ++ regions_from c.loop-j.length xs (drop j ps) (drop j fs)) bs (j + 1) (omega (arith, r.fewer, c.loop-j-test.false)) in
     pushed done (list_of c.push-2.new.self) c.loop-j.length 16 c.push-2.result c.push-2.ensures.items c.push-2.ensures.test (omega (arith, c.loop-j.invariant.1, r.fewer, r.few))
     ∙ sym end ∙ c.loop-j.invariant.0 ∙ whole

@@ -7,8 +7,8 @@ use Rattle.cabinet.proofs.loading.started.Goals as goal
 
 pub loop-task-preserved : goal.loop-task-preserved
 loop-task-preserved c =
-    unreleased-more 24 c.args.tasks.now c.loop-task.task-index (list_of c.loop-task.slots) (list_of c.push.new.self) c.push.result c.task-item.result c.never-released-in-loop-task.result
-    c.push.ensures.items c.push.ensures.test c.loop-task.invariant c.loop-task-test.true c.requires c.task-item.is c.never-released-in-loop-task.ensures
+    unreleased-more 24 c.args.tasks.now c.loop-task.task-index (list_of c.loop-task.slots) (list_of c.push.new.self) c.push.result c.task-item.result c.never_released-in-loop-task.result
+    c.push.ensures.items c.push.ensures.test c.loop-task.invariant c.loop-task-test.true c.requires c.task-item.is c.never_released-in-loop-task.ensures
 
 pub returns : goal.returns
 returns c =

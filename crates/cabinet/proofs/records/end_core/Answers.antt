@@ -10,7 +10,7 @@ loop-i-preserved c =
     let ys = list_of c.loop-i.table in
     let few : c.loop-i.i < length (list_of c.args.table.now) = omega arith in (
       ap length c.set.ensures ∙ simp length-set c.loop-i.invariant.0,
-      c.set.ensures ∙ ap (set ys c.loop-i.i) c.ended-on-ended.ensures
+      c.set.ensures ∙ ap (set ys c.loop-i.i) c.ended_on-ended.ensures
           ∙ map_over_more (ended_on c.args.core) (list_of c.args.table.now) ys c.loop-i.i c.at.result few c.loop-i.invariant.1 (c.at.ensures c.at.result),
     )
 

@@ -5,19 +5,19 @@ use Rattle.machine.specs.Choosing.{Chooses}
 use Rattle.machine.proofs.Bridge.{chosen_enters, none_enters, busy_enters}
 use Rattle.cabinet.proofs.records.enter_core.Goals as goal
 
-pub returns-then-is-busy : goal.returns-then-is-busy
-returns-then-is-busy c =
+pub returns-then-is_busy : goal.returns-then-is_busy
+returns-then-is_busy c =
     let core = c.args.core in
-    busy_enters core (list_of c.args.table.now) (ap (busy core) (sym c.as-slice.ensures.value) ∙ sym c.if-is-busy.ensures)
+    busy_enters core (list_of c.args.table.now) (ap (busy core) (sym c.as_slice.ensures.value) ∙ sym c.if-is_busy.ensures)
 
 pub returns-in-Some : goal.returns-in-Some
 returns-in-Some c =
     let core = c.args.core in
-    let chosen = subst (λ l. Chooses core l (length l) (Some c.in-Some.i)) c.as-slice-2.ensures.value c.in-Some.ensures in
-    c.set.ensures ∙ chosen_enters core (list_of c.args.table.now) c.in-Some.i c.at-slot.result c.step-slot.result (ap (busy core) (sym c.as-slice.ensures.value) ∙ sym c.if-is-busy.ensures) chosen c.at-slot.ensures c.step-slot.ensures
+    let chosen = subst (λ l. Chooses core l (length l) (Some c.in-Some.i)) c.as_slice-2.ensures.value c.in-Some.ensures in
+    c.set.ensures ∙ chosen_enters core (list_of c.args.table.now) c.in-Some.i c.at-slot.result c.step-slot.result (ap (busy core) (sym c.as_slice.ensures.value) ∙ sym c.if-is_busy.ensures) chosen c.at-slot.ensures c.step-slot.ensures
 
-pub returns-in-default : goal.returns-in-default
-returns-in-default c =
+pub returns-in_default : goal.returns-in_default
+returns-in_default c =
     let core = c.args.core in
-    let none = subst (λ l. Chooses core l (length l) None) c.as-slice-2.ensures.value c.in-default.ensures in
-    none_enters core (list_of c.args.table.now) (ap (busy core) (sym c.as-slice.ensures.value) ∙ sym c.if-is-busy.ensures) none
+    let none = subst (λ l. Chooses core l (length l) None) c.as_slice-2.ensures.value c.in_default.ensures in
+    none_enters core (list_of c.args.table.now) (ap (busy core) (sym c.as_slice.ensures.value) ∙ sym c.if-is_busy.ensures) none

@@ -20,10 +20,10 @@ returns c =
     record {
       text =
           on_word was (cuts ++ numbers) (codes "))\n") c.word-4.ensures.text
-          (on_word was cuts numbers c.add-cuts.ensures.text
+          (on_word was cuts numbers c.add_cuts.ensures.text
           (on_word was number (codes ") (cuts") c.word-3.ensures.text
           (on-number was id c.from-2.result t.id c.number-2.ensures.text c.from-2.ensures
           (on_word was core (codes " (id ") c.word-2.ensures.text
           (on-number was on c.from.result r.core c.number.ensures.text c.from.ensures c.word.ensures.text)))));
-      len = omega (arith, c.word.ensures.len, c.number.ensures.len, c.word-2.ensures.len, c.number-2.ensures.len, c.word-3.ensures.len, c.add-cuts.ensures.len, c.word-4.ensures.len);
+      len = omega (arith, c.word.ensures.len, c.number.ensures.len, c.word-2.ensures.len, c.number-2.ensures.len, c.word-3.ensures.len, c.add_cuts.ensures.len, c.word-4.ensures.len);
     }

@@ -14,7 +14,7 @@ loop-task-init c =
     let text = text_of c.args.text.now in
     let tasks = c.args.tasks.now in
     let rows = c.args.rows.now in
-    let it = c.into-iter-task-iterator.ensures.into-iter-gives in
+    let it = c.into_iter-task-iterator.ensures.into_iter_gives in
     let first = ap (λ z. iter_rest (zip_first z)) it ∙ ap iter_rest c.zip-task-items.ensures.first ∙ c.iter.ensures.rest in
     let second = ap (λ z. iter_rest (zip_second z)) it ∙ c.zip-task-items.ensures.second.0 in
     writing_at (text ++ row_lines (tasks_of tasks) rows) text tasks _ rows _ (sym first) (sym second) (record { rest = refl; room = omega (arith, c.requires.few, c.requires.room, length_stored tasks) })
@@ -26,7 +26,7 @@ loop-task-preserved c =
     let steps = c.in-Some.ensures.steps in
     let left = iter_rest (zip_first c.next.new.self) in
     let rows = iter_rest (zip_second c.next.new.self) in
-    writing_more whole text (text_of c.add-row.new.text) (task_of c.in-Some.task.now) (tasks_of left) c.in-Some.row.now rows c.add-row.ensures.text c.add-row.ensures.len
+    writing_more whole text (text_of c.add_row.new.text) (task_of c.in-Some.task.now) (tasks_of left) c.in-Some.row.now rows c.add_row.ensures.text c.add_row.ensures.len
     (writing_at whole text _ (c.in-Some.task.now ∷ left) _ (c.in-Some.row.now ∷ rows) steps.0 steps.1 c.loop-task.invariant)
 
 pub returns : goal.returns

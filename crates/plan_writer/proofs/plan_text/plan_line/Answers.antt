@@ -7,7 +7,7 @@ returns c =
     record {
       text =
           then_word (codes "))\n") c.word-4.ensures.text
-          (then_number c.cost-of-cost.result c.number-3.ensures.text c.cost-of-cost.ensures.value
+          (then_number c.cost_of-cost.result c.number-3.ensures.text c.cost_of-cost.ensures.value
           (then_word (codes ") (cost ") c.word-3.ensures.text
           (then_number c.from-2.result c.number-2.ensures.text (c.from-2.ensures ∙ c.span-span.ensures.value)
           (then_word (codes ") (span ") c.word-2.ensures.text

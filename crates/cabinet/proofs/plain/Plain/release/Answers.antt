@@ -9,7 +9,7 @@ use Rattle.cabinet.proofs.plain.Plain.release.Goals.{In-Some}
 
 -- the record that was found is that of the place
 found : (c : In-Some) → Some c.in-Some.slot ≡ slot_at c.args.place (list_of c.args.self.now.slots)
-found c = c.in-Some.ensures ∙ ap (slot_at c.args.place) c.as-slice.ensures.value
+found c = c.in-Some.ensures ∙ ap (slot_at c.args.place) c.as_slice.ensures.value
 
 pub set-requires : goal.set-requires
 set-requires c = (omega arith, (slot_index c.args.place (list_of c.args.self.now.slots) c.in-Some.slot (found (goal.at.set-requires c).In-Some)).1)
@@ -21,7 +21,7 @@ returns c =
     let slot = c.in-Some.slot in
     let is = found (goal.at.returns c).In-Some in
     let index = slot_index place st.slots slot is in
-    let allowed = release_allowed st.clock place (slot_at place st.slots) slot (sym is) c.if-not-has-period-passed.ensures c.if-not-is-idle.ensures in
+    let allowed = release_allowed st.clock place (slot_at place st.slots) slot (sym is) c.if-not-has_period_passed.ensures c.if-not-is_idle.ensures in
     let place_is : place ≡ suc (place - 1) = omega (arith, index.0) in
     let done = release_step st (place - 1) place slot c.step-slot.result place_is allowed index.2 c.step-slot.ensures in
     let slots = ap (λ l. record { cores = st.cores; clock = st.clock; slots = l }) c.set.ensures in

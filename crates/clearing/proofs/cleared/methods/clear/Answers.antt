@@ -24,7 +24,7 @@ pub invariant_of-cleared : goal.invariant_of-cleared
 invariant_of-cleared c =
     let rows = c.args.rows.now in
     let lawful = subst (λ t. Lawful EdfAccepts edf_limit t rows) (sym c.duplicate.ensures) c.in_ok-examine_plan.ensures in
-    (∣ subst (λ l. Lawful EdfAccepts edf_limit (sealed c.duplicate.result) l) (sym (kept_rows (goal.at.invariant_of-cleared c).After-extend_from_slice)) lawful ∣₁, tt)
+    record { lawful = ∣ subst (λ l. Lawful EdfAccepts edf_limit (sealed c.duplicate.result) l) (sym (kept_rows (goal.at.invariant_of-cleared c).After-extend_from_slice)) lawful ∣₁ }
 
 pub returns : goal.returns
 returns c = (c.in_ok-examine_plan.ensures, c.duplicate.ensures, kept_rows (goal.at.returns c).After-extend_from_slice)

@@ -12,18 +12,18 @@ use Rattle.planning.proofs.Next.{cores_range}
 use Rattle.planning.proofs.Retreat.{back}
 use Rattle.planning.proofs.types.Search.advance.Goals as goal
 
-pub returns-in-default : goal.returns-in-default
-returns-in-default g c =
+pub returns-in_default : goal.returns-in_default
+returns-in_default g c =
     let x = c.args.test.now in
     let laws : Laws (g.C.CoreTest.accepts x) (g.C.CoreTest.limit x) = record { lighter = g.met.C.CoreTest.lighter x; longer = g.met.C.CoreTest.longer x; fewer = g.met.C.CoreTest.fewer x } in
     let table = sealed c.args.table.now in
     let s = c.loop-self.self in
     let used : table.cores < s.core = omega (arith, c.cores.ensures, c.loop-self-test.true) in
-    let none : list_of s.placed ≡ [] = nil_from_length (list_of s.placed) (omega (arith, ltb-false 0 (length (list_of s.placed)) (sym c.in-default.ensures.test))) in
+    let none : list_of s.placed ≡ [] = nil_from_length (list_of s.placed) (omega (arith, ltb-false 0 (length (list_of s.placed)) (sym c.in_default.ensures.test))) in
     move_end laws table (list_of s.rows) (list_of s.placed) s.core s.cost s.best c.loop-self.invariant.0 used none
 
-pub overflow-sub-self : goal.overflow-sub-self
-overflow-sub-self g c =
+pub overflow_sub-self : goal.overflow_sub-self
+overflow_sub-self g c =
     let x = c.args.test.now in
     let laws : Laws (g.C.CoreTest.accepts x) (g.C.CoreTest.limit x) = record { lighter = g.met.C.CoreTest.lighter x; longer = g.met.C.CoreTest.longer x; fewer = g.met.C.CoreTest.fewer x } in
     let table = sealed c.args.table.now in
@@ -32,8 +32,8 @@ overflow-sub-self g c =
     let b = back laws table s c.loop-self.invariant.0 used (list_of c.pop-in-loop-self.new.self) (list_of c.pop.new.self) c.in-Some.last c.pop-in-loop-self.result c.in-Some.ensures.items c.pop-in-loop-self.ensures.items c.pop-in-loop-self.ensures.test in
     b.price
 
-pub overflow-add-self-in-loop-self : goal.overflow-add-self-in-loop-self
-overflow-add-self-in-loop-self g c =
+pub overflow_add-self-in-loop-self : goal.overflow_add-self-in-loop-self
+overflow_add-self-in-loop-self g c =
     let x = c.args.test.now in
     let laws : Laws (g.C.CoreTest.accepts x) (g.C.CoreTest.limit x) = record { lighter = g.met.C.CoreTest.lighter x; longer = g.met.C.CoreTest.longer x; fewer = g.met.C.CoreTest.fewer x } in
     let table = sealed c.args.table.now in
