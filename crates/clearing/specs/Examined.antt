@@ -1,5 +1,5 @@
 -- What the steps of the examination of a plan answer.
-use Rattle.std.specs.Prelude.{◌≡◌, ℕ, ◌<◌, ◌≤◌, cond, List, [], length, Some, None, Ok, Err, Option, Result, ◌==◌, ◌≢◌}
+use Rattle.std.specs.Prelude.{ℕ, ◌<◌, ◌≤◌, cond, List, [], length, Some, None, Ok, Err, Option, Result, ◌==◌, ◌≢◌}
 use Rattle.tasks.specs.Tasks.{Table}
 use Rattle.tasks.specs.declared.refusal.Refusal.{Refusal}
 use Rattle.tasks.specs.declared.refusal.Refusal.TheVariants.{WrongRow}

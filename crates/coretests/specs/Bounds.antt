@@ -56,9 +56,9 @@ least_zero f start (suc count) t a b h =
     ap (λ n. lesser (least f start count) (Some n)) here ∙ lesser_zero (least f start count))
     (cases_lt t (start + count))
 
-lesser-left : (o : Option ℕ) (m n : ℕ) → AtMost o (Some n) → AtMost (lesser o (Some m)) (Some n)
-lesser-left None m n h = absurd h
-lesser-left (Some a) m n h = omega arith
+lesser_left : (o : Option ℕ) (m n : ℕ) → AtMost o (Some n) → AtMost (lesser o (Some m)) (Some n)
+lesser_left None m n h = absurd h
+lesser_left (Some a) m n h = omega arith
 
 lesser_right : (o : Option ℕ) (m n : ℕ) → m ≡ n → AtMost (lesser o (Some m)) (Some n)
 lesser_right None m n h = omega arith
@@ -68,6 +68,6 @@ pub least_at : (f : ℕ → ℕ) (start count t : ℕ) → start ≤ t → t < s
 least_at f start zero t a b = absurd (omega arith)
 least_at f start (suc count) t a b =
     ⊎_elim
-    (λ (l : t < start + count). lesser-left (least f start count) (f (start + count)) (f t) (least_at f start count t a l))
+    (λ (l : t < start + count). lesser_left (least f start count) (f (start + count)) (f t) (least_at f start count t a l))
     (λ (l : start + count ≤ t). lesser_right (least f start count) (f (start + count)) (f t) (ap f (omega arith)))
     (cases_lt t (start + count))

@@ -6,7 +6,7 @@ use Rattle.std.proofs.lemmas.List.{append-nil, map-append}
 use Rattle.std.proofs.lemmas.Bool.{cond-true, cond-false, cases_Bool, eqb-true, eqb-false, and_parts, and_from, le-leb, leb-true}
 use Rattle.bounded.specs.Lists.{list_of}
 use Rattle.tasks.specs.Tasks.{Task, Table, every, in_range, ordered_from, table_rules}
-use Rattle.tasks.specs.Cuts.{regions, total, load}
+use Rattle.tasks.specs.Cuts.{total, load}
 use Rattle.tasks.proofs.Rules.{rules_are}
 use Rattle.coretests.specs.declared.entry.Entry.{Entry}
 use Rattle.coretests.specs.Entries.{sound, between}

@@ -6,7 +6,7 @@ use Rattle.cuts.specs.Orders.{NoLater}
 use Rattle.cuts.specs.Allowed.{Allowed, LeastCuts}
 use Rattle.plans.specs.declared.types.Row.{Row}
 use Rattle.plans.specs.declared.types.Placed.{Placed}
-use Rattle.plans.specs.Plans.{place, places, on_core, Held, Lawful, cost, cost_of, cores, rank}
+use Rattle.plans.specs.Plans.{place, places, on_core, Held, Lawful, cost, cores, rank}
 
 -- xs comes before ps in dictionary order, and does not go on from it: where they first differ, xs is smaller
 abbrev pub Before : List ℕ → List ℕ → Type 0

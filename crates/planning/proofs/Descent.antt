@@ -1,5 +1,5 @@
 -- The next task on the present core: each way out of `descend`. Assumes nothing but the laws of the test.
-use Rattle.std.proofs.Common.{◌≡◌, ℕ, ◌+◌, ◌*◌, ◌<◌, ◌≤◌, true, false, List, [], ◌∷◌, ◌++◌, length, get_or, Some, None, Option, sym, refl, ap, ◌∙◌, subst, arith, length-append}
+use Rattle.std.proofs.Common.{◌≡◌, ℕ, ◌+◌, ◌<◌, ◌≤◌, true, false, List, [], ◌∷◌, ◌++◌, length, get_or, Some, None, Option, sym, refl, ap, ◌∙◌, subst, arith, length-append}
 use Rattle.bounded.specs.declared.list.Bounded.{Bounded}
 use Rattle.bounded.specs.Lists.{list_of}
 use Rattle.tasks.specs.Tasks.{Task, Table, weight, in_range, table_rules}
@@ -14,7 +14,6 @@ use Rattle.optimality.specs.Tests.{Laws}
 use Rattle.optimality.specs.Beginnings.{Spare}
 use Rattle.optimality.proofs.Steps.{Here, cores-length}
 use Rattle.optimality.proofs.Bounds.{heavy, cost_small}
-use Rattle.planning.specs.declared.types.Planned.{Planned}
 use Rattle.planning.specs.declared.types.Search.{Search}
 use Rattle.planning.specs.declared.types.Found.{Found}
 use Rattle.planning.specs.Walk.{Over, Going, Tried, PutWell, beats, left, steps_left}

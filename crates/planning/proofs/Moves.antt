@@ -1,5 +1,5 @@
 -- What each move of the search keeps. Assumes nothing but the laws of the test.
-use Rattle.std.proofs.Common.{◌≡◌, ℕ, suc, ◌+◌, ◌-◌, ◌*◌, ◌<◌, ◌≤◌, Bool, true, false, List, [], ◌∷◌, ◌++◌, length, Some, None, Option, sym, refl, ap, ◌∙◌, subst, add-one, arith, length-append}
+use Rattle.std.proofs.Common.{◌≡◌, ℕ, suc, ◌+◌, ◌-◌, ◌<◌, ◌≤◌, true, false, List, [], ◌∷◌, ◌++◌, length, Some, None, Option, sym, refl, ap, ◌∙◌, subst, add-one, arith, length-append}
 use Rattle.std.specs.Option.{option_map}
 use Rattle.std.specs.List.{AllByRecursion}
 use Rattle.std.proofs.lemmas.List.{same_from_push, nil_from_length}
@@ -10,9 +10,9 @@ use Rattle.coretests.specs.declared.entry.Entry.{Entry}
 use Rattle.cuts.specs.Allowed.{LeastCuts}
 use Rattle.plans.specs.declared.types.Row.{Row}
 use Rattle.plans.specs.declared.types.Placed.{Placed}
-use Rattle.plans.specs.Plans.{place, placed_with, places, on_core, Held, Lawful, cost, cost_of, cores, rank, Choice}
+use Rattle.plans.specs.Plans.{place, placed_with, places, on_core, Held, Lawful, cost, cores}
 use Rattle.optimality.specs.Tests.{Laws}
-use Rattle.optimality.specs.Beginnings.{Before, Begun, Leads, Cheaper, Unplaceable, Spare, row}
+use Rattle.optimality.specs.Beginnings.{Before, Begun, Leads, Cheaper, Unplaceable, Spare}
 use Rattle.optimality.proofs.Order.{Begins}
 use Rattle.optimality.proofs.Steps as steps
 use Rattle.optimality.proofs.Steps.{Here, cores_push, cores-length, places_push, cost_push, greedy_pop, greedy_last, held_pop}

@@ -1,5 +1,5 @@
 -- The next core, and back to the tasks before where every core has been tried: each turn of `advance`. Assumes nothing but the laws of the test.
-use Rattle.std.proofs.Common.{◌≡◌, ℕ, ◌+◌, ◌-◌, ◌<◌, ◌≤◌, true, false, ltb, List, [], ◌∷◌, ◌++◌, length, get_or, is_some, Some, None, Option, sym, refl, ap, ◌∙◌, arith, length-append}
+use Rattle.std.proofs.Common.{◌≡◌, ℕ, ◌+◌, ◌-◌, ◌<◌, ◌≤◌, ltb, List, [], ◌∷◌, ◌++◌, length, get_or, is_some, Some, None, Option, sym, ap, ◌∙◌, arith, length-append}
 use Rattle.std.specs.Option.{option_to_list as item_of}
 use Rattle.std.proofs.lemmas.Bool.{ltb-false}
 use Rattle.bounded.specs.Lists.{list_of}

@@ -1,5 +1,5 @@
 -- The search before its first step, and a table of no task. Assumes nothing but the laws of the test.
-use Rattle.std.proofs.Common.{◌≡◌, ℕ, ◌<◌, ◌≤◌, List, [], ◌∷◌, ◌++◌, length, Some, None, Option, sym, refl, ap, ◌∙◌, subst, inl, inr, arith}
+use Rattle.std.proofs.Common.{◌≡◌, ℕ, ◌<◌, ◌≤◌, List, [], ◌∷◌, length, Option, sym, refl, ap, subst, inr, arith}
 use Rattle.std.specs.Option.{option_map}
 use Rattle.bounded.specs.Lists.{list_of}
 use Rattle.tasks.specs.Tasks.{Task, Table}
@@ -7,11 +7,10 @@ use Rattle.coretests.specs.declared.entry.Entry.{Entry}
 use Rattle.cuts.specs.Orders.{NoLater}
 use Rattle.plans.specs.declared.types.Row.{Row}
 use Rattle.plans.specs.declared.types.Placed.{Placed}
-use Rattle.plans.specs.Plans.{Fits, Lawful, cost, cost_of, rank_of, cores, Choice}
+use Rattle.plans.specs.Plans.{Fits, rank_of, Choice}
 use Rattle.optimality.specs.Tests.{Laws}
 use Rattle.optimality.specs.Beginnings.{Leads}
 use Rattle.optimality.proofs.Steps.{leads_start}
-use Rattle.planning.specs.declared.types.Planned.{Planned}
 use Rattle.planning.specs.declared.types.Search.{Search}
 use Rattle.planning.specs.Planning.{rows_of}
 use Rattle.planning.specs.Walk.{Priced, Over, Going, Starts}

@@ -1,6 +1,6 @@
 -- Which plans of a table are lawful under a core test, what they cost, and which of them is chosen.
 -- A core test is given by the lists that it accepts, and by its limit: the longest region of a next task with an asked deadline.
-use Rattle.std.specs.Prelude.{◌≡◌, ℕ, ◌+◌, ◌*◌, ◌≤◌, cond, List, [], ◌∷◌, ◌++◌, map, Option, ◌==◌, ◌≢◌}
+use Rattle.std.specs.Prelude.{ℕ, ◌+◌, ◌*◌, ◌≤◌, cond, List, [], ◌∷◌, ◌++◌, map, Option, ◌==◌, ◌≢◌}
 use Rattle.tasks.specs.Tasks.{Task, Table}
 use Rattle.tasks.specs.Cuts.{total, load, overhead}
 use Rattle.coretests.specs.declared.entry.Entry.{Entry}

@@ -49,6 +49,13 @@ impl<const N: usize> Text<N> {
         ensures text { text_of self.new ≡ text_of self.old ++ decimal n }
         ensures len { length (text_of self.new) ≤ length (text_of self.old) + 20 }
     {
+        self.digits(n);
+    }
+
+    fn digits(&mut self, n: u64)
+        requires { length (text_of self.old) + length (decimal n) ≤ N }
+        ensures { text_of self.new ≡ text_of self.old ++ decimal n }
+    {
         let mut digits = Bounded::new(0);
         push_digits(&mut digits, n);
         self.word(digits.as_slice());

@@ -1,4 +1,4 @@
-use Rattle.std.proofs.Common.{◌≡◌, true, List, [], ◌∷◌, ◌++◌, None, sym, refl, ap, ◌∙◌, subst, inl, inr, ⊎_elim, arith}
+use Rattle.std.proofs.Common.{◌≡◌, true, List, ◌∷◌, None, sym, refl, ap, ◌∙◌, subst, inl, inr, ⊎_elim, arith}
 use Rattle.std.specs.Slice.Iter.{iter_rest}
 use Rattle.std.specs.Iterator.Adapters.{zip_first, zip_second}
 use Rattle.std.proofs.lemmas.Slice.Zip.{either_empty_from_Zip}
@@ -10,7 +10,7 @@ use Rattle.tasks.specs.Tables.{sealed}
 use Rattle.tasks.proofs.Rules.{rules_are}
 use Rattle.plans.specs.declared.types.Row.{Row}
 use Rattle.bounded.proofs.Pushed.{pushed}
-use Rattle.machine.proofs.Assigning.{Assigns, assigns_start, assigns_more, assigns_end}
+use Rattle.machine.proofs.Assigning.{Assigns, assigns_more, assigns_end}
 use Rattle.cabinet.proofs.loading.assign_all.Goals as goal
 use Rattle.cabinet.proofs.loading.assign_all.Goals.{In-Some}
 

@@ -1,4 +1,4 @@
-use Rattle.std.proofs.Common.{◌≡◌, min, map, ap, ◌∙◌, arith}
+use Rattle.std.proofs.Common.{◌≡◌, map, ap, ◌∙◌, arith}
 use Rattle.std.proofs.lemmas.List.{take_all}
 use Rattle.bounded.specs.Lists.{list_of}
 use Rattle.machine.specs.Slots.{unreleased}

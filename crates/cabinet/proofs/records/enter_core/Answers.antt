@@ -1,4 +1,4 @@
-use Rattle.std.proofs.Common.{◌≡◌, true, false, length, Some, None, sym, ap, ◌∙◌, subst}
+use Rattle.std.proofs.Common.{length, Some, None, sym, ap, ◌∙◌, subst}
 use Rattle.bounded.specs.Lists.{list_of}
 use Rattle.machine.specs.Slots.{busy}
 use Rattle.machine.specs.Choosing.{Chooses}

@@ -1,4 +1,4 @@
-use Rattle.std.proofs.Common.{◌≡◌, true, sym, refl, arith}
+use Rattle.std.proofs.Common.{true, sym, refl, arith}
 use Rattle.std.proofs.lemmas.Bool.{both_ways}
 use Rattle.planning.proofs.placing.is_spare.Goals as goal
 

@@ -1,4 +1,4 @@
-use Rattle.std.proofs.Common.{◌+◌, true, get_or, drop, sym, refl, ◌∙◌}
+use Rattle.std.proofs.Common.{◌+◌, get_or, drop, sym, refl, ◌∙◌}
 use Rattle.std.proofs.lemmas.List.{at_drop_more, at_drop_all}
 use Rattle.std.proofs.lemmas.Bool.{false≢true}
 use Rattle.plans.specs.Plans.{on_core}

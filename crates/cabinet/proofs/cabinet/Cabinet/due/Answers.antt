@@ -1,5 +1,4 @@
-use Rattle.std.proofs.Common.{◌≡◌, cond, Some, None, sym, ap, ◌∙◌}
-use Rattle.bounded.specs.Lists.{list_of}
+use Rattle.std.proofs.Common.{◌≡◌, cond, Some, None, ap, ◌∙◌}
 use Rattle.machine.specs.Machine.{slot_at}
 use Rattle.cabinet.specs.Cabinets.{state, due_of}
 use Rattle.cabinet.proofs.Reaching.{due_later}

@@ -1,6 +1,5 @@
 use Rattle.std.proofs.Common.{◌≡◌, length, sym, ap, ◌∙◌, subst}
 use Rattle.bounded.specs.Lists.{list_of}
-use Rattle.tasks.specs.Tables.{sealed}
 use Rattle.clearing.specs.Clearing.{table_in, rows_in}
 use Rattle.machine.specs.Assigning.{AssignedAll}
 use Rattle.machine.specs.Machine.{start}

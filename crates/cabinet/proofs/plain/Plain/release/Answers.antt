@@ -1,6 +1,6 @@
 use Rattle.std.proofs.Common.{◌≡◌, suc, ◌-◌, Some, sym, ap, ◌∙◌, arith}
 use Rattle.bounded.specs.Lists.{list_of}
-use Rattle.machine.specs.Machine.{granted, slot_at}
+use Rattle.machine.specs.Machine.{slot_at}
 use Rattle.machine.proofs.Bridge.{release_allowed, release_step}
 use Rattle.cabinet.specs.States.{state_of}
 use Rattle.cabinet.proofs.Indexing.{slot_index}

@@ -1,4 +1,4 @@
-use Rattle.std.proofs.Common.{◌≡◌, ◌/◌, [], ◌∷◌, ◌++◌, length, sym, refl, ap, ◌∙◌, div-le_self, arith}
+use Rattle.std.proofs.Common.{◌≡◌, ◌/◌, [], ◌∷◌, ◌++◌, length, sym, refl, ap, ◌∙◌, arith}
 use Rattle.tasks.specs.Tables.{sealed}
 use Rattle.tasks.specs.Stored.{task_of}
 use Rattle.tasks.specs.Tasks.{weight}
@@ -7,7 +7,7 @@ use Rattle.bounded.specs.Lists.{list_of}
 use Rattle.optimality.specs.Tests.{Laws}
 use Rattle.optimality.proofs.Bounds.{weight_small}
 use Rattle.bounded.proofs.Pushed.{pushed}
-use Rattle.planning.proofs.Descent.{before_length, before_short, before_few, spare_tried, in_range_lem, none_tried, sum_fits, dear_tried, rows_length, whole_tried, goes_down}
+use Rattle.planning.proofs.Descent.{before_length, before_short, before_few, spare_tried, in_range_lem, none_tried, sum_fits, dear_tried, whole_tried, goes_down}
 use Rattle.planning.proofs.types.Search.descend.Goals as goal
 
 pub returns-then-is_spare : goal.returns-then-is_spare
