@@ -1,12 +1,12 @@
 #!/usr/bin/env python3
-"""Answers sheets as docs/RULES.md says. Written from that page alone, as a check on the programs `planner` and `rehearse`.
+"""Answers sheets as docs/RULES.md says. Written from that page alone, as a check on the programs `plan_sheets` and `rehearse`.
 
   oracle.py [--under PILE] [--exhaustive] [--rehearse] [--named] [SHEET..]
-        prints what `planner` prints for each sheet, or for the one on standard input.
+        prints the plan of each sheet, or for the one on standard input.
         --under PILE    plans under another core test, layers first: handover:1/cap:2/edf, or fixed
         --exhaustive    finds the plan by going through every plan of the table; small tables only
         --rehearse      prints what `rehearse` prints
-        --named         puts the sheet's name before its answer, as the program `cases` does
+        --named         puts the sheet's name before its answer, as the program `plan_sheets` does
   oracle.py --worked
         checks the worked plans of RULES.md, section 8, by search and by going through every plan
   oracle.py --selfcheck [ROUNDS [SEED]]

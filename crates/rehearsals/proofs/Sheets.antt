@@ -1,5 +1,5 @@
 -- The plan of a sheet. Assumes nothing.
-use Rattle.std.proofs.Common.{◌≡◌, ℕ, ◌⊎◌, List, [], Ok, Err, Result, sym, ◌∙◌, subst, inl, inr}
+use Rattle.std.proofs.Common.{◌≡◌, ℕ, ◌⊎◌, List, [], Ok, Err, Result, sym, subst, inl, inr}
 use Rattle.tasks.specs.declared.refusal.Refusal.{Refusal}
 use Rattle.tasks.specs.declared.table.Draft.{Draft}
 use Rattle.tasks.specs.Tasks.{Table}
@@ -7,7 +7,7 @@ use Rattle.tasks.specs.Tables.{drafted}
 use Rattle.coretests.specs.Edf.{EdfAccepts, edf_limit}
 use Rattle.plans.specs.Plans.{Choice}
 use Rattle.clearing.specs.declared.cleared.Cleared.{Cleared}
-use Rattle.clearing.specs.Clearing.{table_in, rows_in}
+use Rattle.clearing.specs.Clearing.{rows_in}
 use Rattle.sheet.specs.Lines.{FirstRefused}
 use Rattle.sheet.specs.Sheets.{Granted, RefusedAfter, SheetRefused}
 use Rattle.rehearsals.specs.Plans.{PlansAndClears}

@@ -1,5 +1,5 @@
 -- Only one text tells of a sheet. Assumes nothing.
-use Rattle.std.proofs.Common.{◌≡◌, ℕ, Bool, true, false, ◌⊎◌, List, [], ◌∷◌, ◌++◌, map, length, codes, decimal, sym, refl, ap, ◌∙◌, subst, inl, inr, arith}
+use Rattle.std.proofs.Common.{◌≡◌, ℕ, Bool, true, false, List, [], ◌∷◌, ◌++◌, map, length, codes, decimal, sym, refl, ap, ◌∙◌, subst, inl, inr, arith}
 use Rattle.tasks.specs.declared.refusal.Refusal.{Refusal}
 use Rattle.span.specs.Spans.{span_of}
 use Rattle.tasks.specs.Tasks.{Task, Table, periods}
@@ -7,13 +7,13 @@ use Rattle.coretests.specs.Edf.{EdfAccepts, edf_limit}
 use Rattle.cuts.specs.Orders.{mark}
 use Rattle.cuts.specs.Allowed.{flags_at}
 use Rattle.plans.specs.declared.types.Row.{Row}
-use Rattle.plans.specs.Plans.{Lawful, Choice, cost, cores, marks}
+use Rattle.plans.specs.Plans.{Lawful, Choice, cores, marks}
 use Rattle.optimality.proofs.Greedy.{marks-length}
 use Rattle.optimality.proofs.Unique.{fronts_same, one_choice}
 use Rattle.sheet.proofs.Once.{one_table, never_both, one_refusal}
-use Rattle.sheet.specs.Sheets.{Granted, SheetRefused}
+use Rattle.sheet.specs.Sheets.{Granted}
 use Rattle.writer.specs.Lines.{refusal_line}
-use Rattle.plan_writer.specs.Lines.{cut_numbers, row_line, row_lines, plan_line, plan_text}
+use Rattle.plan_writer.specs.Lines.{cut_numbers, row_lines, plan_text}
 use Rattle.rehearsals.specs.Answers.{Unplanned, TextFor}
 
 -- flags with the same numbers are the same
