@@ -20,8 +20,12 @@ TOKEN = re.compile(rf"(?<![^\s(){{}}.;,@\"«»`|\[\]])({WORD})")
 LIBRARY = {"length", "take", "drop", "set", "map", "append", "reverse", "insert", "sum", "sum_by", "get_or"}
 # words of traits that had been run together, since a ghost member had no underscore
 MEMBERS = {"unsoundlimit": "unsound_limit", "nolaxer": "no_laxer", "nolonger": "no_longer"}
-# names that would fall together with another are told apart
-APART = {"at-points": "at_points_lem", "cost-at": "cost_at_lem", "demand-fits": "demand_fits_lem", "in-range": "in_range_lem", "in-time": "in_time_lem", "points-match": "points_match_lem", "region-fits": "region_fits_lem"}
+# names that would fall together with another, or with the function whose contract they prove, are told apart
+APART = {n: n.replace("-", "_") + "_lem" for n in (
+    "at-points", "cost-at", "demand-fits", "in-range", "in-time", "points-match", "region-fits",
+    "tolerance-is-largest", "best-cuts", "flags-order-is-reach", "lawful-is-schedulable", "same-clock",
+    "reading-agrees", "fitting-is-by-place", "one-choice", "choice-has-chosen-cuts",
+)}
 # in use, but in a crate that does not see the other
 ALLOWED = {"one_more", "too_long"}
 
@@ -38,6 +42,7 @@ def declared(root):
         spec = "/specs/" in str(f)
         made |= set(re.findall(rf": goal\.({WORD})", text))
         record = None
+        names |= set(re.findall(r"\blet ([a-z][\w'-]*) ", text))
         for line in text.splitlines():
             if re.match(r"^\s*(pub record|record)\b.*\bwhere$", line):
                 record = len(line) - len(line.lstrip())

@@ -13,7 +13,7 @@ use Rattle.machine.specs.Schedulable.{Schedulable}
 use Rattle.machine.specs.Law.{NeverLate}
 use Rattle.machine.specs.Machine.{State, answers, start}
 use Rattle.machine.proofs.Assigning.{fits_level}
-use Rattle.machine.proofs.Plans.{lawful_is_schedulable}
+use Rattle.machine.proofs.Plans.{lawful_is_schedulable_lem}
 use Rattle.machine.proofs.Runs.{never_late_prop}
 use Rattle.machine.proofs.Simulation.{machine_never_late}
 use Rattle.cabinet.specs.declared.plain.Plain.{Plain}
@@ -32,7 +32,7 @@ plan_level plan =
 
 module _ (plan : Cleared) (clock : ℕ) (tasks : List Assigned) (all : AssignedAll (table_in plan).tasks (rows_in plan) tasks) where
   schedulable : ∥ Schedulable (table_in plan).cores tasks ∥₁
-  schedulable = ∥∥₁_map {B = Schedulable (table_in plan).cores tasks} plan.lawful (λ law. lawful_is_schedulable (table_in plan) (rows_in plan) tasks plan.table.rules law all)
+  schedulable = ∥∥₁_map {B = Schedulable (table_in plan).cores tasks} plan.lawful (λ law. lawful_is_schedulable_lem (table_in plan) (rows_in plan) tasks plan.table.rules law all)
 
   -- what its type keeps
   pub load_keeps : (plain : Plain) → state_of plain ≡ start (table_in plan).cores clock tasks → (plain.cores ≤ 8) × ((plain.clock ≤ 1000000000000) × (∥ Reached (state_of plain) ∥₁ × Unit {0}))

@@ -46,8 +46,8 @@ pub handed_no_longer : (h : ℕ) (below : List Entry → Option ℕ) (d : ℕ) �
     → AtMost (handed_over h below xs) (edf_limit xs d)
 handed_no_longer h below d law xs =
     let ys = raised h xs in
-    let raised-limit : AtMost (below ys) (edf_limit xs d) = at_most_trans (below ys) (edf_limit ys d) (edf_limit xs d) (law ys) (edf_raised h xs d) in
+    let raised_limit : AtMost (below ys) (edf_limit xs d) = at_most_trans (below ys) (edf_limit ys d) (edf_limit xs d) (law ys) (edf_raised h xs d) in
     ⊎_elim
-    (λ (s : sound xs ≡ true). rw (handed_sound h below xs s) (at_most_trans (lessened h (below ys)) (below ys) (edf_limit xs d) (lessened_at_most h (below ys)) raised-limit))
+    (λ (s : sound xs ≡ true). rw (handed_sound h below xs s) (at_most_trans (lessened h (below ys)) (below ys) (edf_limit xs d) (lessened_at_most h (below ys)) raised_limit))
     (λ (s : sound xs ≡ false). rw (handed_unsound h below xs s) (at_most_zero (edf_limit xs d)))
     (cases_Bool (sound xs))

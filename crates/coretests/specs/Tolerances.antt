@@ -196,8 +196,8 @@ module _ (before : List Entry) (e : Entry) where
   pub margin_is : margin before e ≡ one_more (tolerance before e)
   margin_is = margin-from (tolerance before e) largest_is
 
-pub tolerance_is_largest : ToleranceIsLargest
-tolerance_is_largest before e = largest_is before e
+pub tolerance_is_largest_lem : ToleranceIsLargest
+tolerance_is_largest_lem before e = largest_is before e
 
 -- what is one less than one more
 pub one_less_is : (r o : Option ℕ) (n : ℕ) → n ≡ one_more o → SomeIff r (1 ≤ n) (n - 1) → r ≡ o

@@ -99,8 +99,8 @@ module _ (limit : Option ℕ) (t : Task) (r : Ranges t.blocks t.points) where
       go (Some c) a = omega (arith, a.cost_is, cost_at_most (drop e t.points) a.fs (All-drop (λ k. k ≤ 1000000) e t.points r.costs), length-drop e t.points, r.few, r.fewer)
 
   -- what the programme ends with is the choice
-  pub best_cuts : (bs : List ℕ) (o : Option Cuts) → bs ≡ t.blocks → o ≡ best_at limit t (get_or bs 0 0) 0 → BestCuts limit t o
-  best_cuts bs o blocks-are is =
+  pub best_cuts_lem : (bs : List ℕ) (o : Option Cuts) → bs ≡ t.blocks → o ≡ best_at limit t (get_or bs 0 0) 0 → BestCuts limit t o
+  best_cuts_lem bs o blocks-are is =
       let whole = is ∙ ap (λ xs. best_at limit t (get_or xs 0 0) 0) blocks-are in
       go o (subst (Answer limit (get_or t.blocks 0 0) 0 (drop 1 t.blocks) t.points) (sym whole) (best_answer (get_or t.blocks 0 0) 0 (omega arith)))
     where

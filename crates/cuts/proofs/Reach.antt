@@ -47,8 +47,8 @@ order_from_reach k (true ∷ fs) (false ∷ gs) m a = absurd (not_behind k (k + 
 order_from_reach k (true ∷ fs) (true ∷ gs) m (inl l) = absurd (omega arith)
 order_from_reach k (true ∷ fs) (true ∷ gs) m (inr e) = inr (refl, order_from_reach (k + 1) fs gs (omega arith) e.1)
 
-pub flags_order_is_reach : FlagsOrderIsReach
-flags_order_is_reach t cuts others =
+pub flags_order_is_reach_lem : FlagsOrderIsReach
+flags_order_is_reach_lem t cuts others =
     let same = length_flags t.points cuts ∙ sym (length_flags t.points others) in
     (reach_from_order 1 (flags_at t.points cuts) (flags_at t.points others) same, order_from_reach 1 (flags_at t.points cuts) (flags_at t.points others) same)
 
@@ -58,7 +58,7 @@ chosen_reach_furthest limit t cuts others h a = go (h.least others a)
     go : NoLater (cut_cost t cuts ∷ map mark (flags_at t.points cuts)) (cut_cost t others ∷ map mark (flags_at t.points others))
         → (cut_cost t cuts < cut_cost t others) ⊎ ((cut_cost t cuts ≡ cut_cost t others) × AsFar (reaches t cuts) (reaches t others))
     go (inl l) = inl l
-    go (inr e) = inr (e.0, (flags_order_is_reach t cuts others).0 e.1)
+    go (inr e) = inr (e.0, (flags_order_is_reach_lem t cuts others).0 e.1)
 
 reach_each : (n k : ℕ) (bs ps : List ℕ) (fs : List Bool) → length bs ≡ length ps → length (reaches_from k (flags_at ps fs)) ≡ length (regions_from n bs ps fs)
 reach_each n k [] [] fs m = refl

@@ -184,5 +184,5 @@ module _ (table : Table) (rows : List Row) (tasks : List Assigned) (rules : tabl
         (list_of i.regions) (limited edf_limit table c [] (rules_are table rules).ranges all plan.fits i after before e);
   }
 
-pub lawful_is_schedulable : LawfulIsSchedulable
-lawful_is_schedulable table rows tasks rules plan all = plan_schedulable table rows tasks rules plan (along table.tasks rows tasks all)
+pub lawful_is_schedulable_lem : LawfulIsSchedulable
+lawful_is_schedulable_lem table rows tasks rules plan all = plan_schedulable table rows tasks rules plan (along table.tasks rows tasks all)

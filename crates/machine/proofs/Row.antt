@@ -41,9 +41,9 @@ place-on_one : (c p : ℕ) (ss : List Slot) → 1 ≤ p → sum_of (count_on c w
 place-on_one c p [] l o = tt
 place-on_one c p (s ∷ ss) l o = elim (cases_Bool (under c s)) [
   | inl t ↦
-      let here-is : place_on c p (s ∷ ss) ≡ p = cond-true (under c s) p (place_on c (suc p) ss) t in (
-        eq-eqb _ p here-is ∙ sym t,
-        places_of (λ q x. eqb p q ≡ under c x) (λ q x. eqb (place_on c p (s ∷ ss)) q ≡ under c x) (suc p) (λ q x _ e. ap (λ n. eqb n q) here-is ∙ e) ss (none_under c p (suc p) ss (omega arith) (omega (arith, under_counts (runs_on c s) s.job t))),
+      let here_is : place_on c p (s ∷ ss) ≡ p = cond-true (under c s) p (place_on c (suc p) ss) t in (
+        eq-eqb _ p here_is ∙ sym t,
+        places_of (λ q x. eqb p q ≡ under c x) (λ q x. eqb (place_on c p (s ∷ ss)) q ≡ under c x) (suc p) (λ q x _ e. ap (λ n. eqb n q) here_is ∙ e) ss (none_under c p (suc p) ss (omega arith) (omega (arith, under_counts (runs_on c s) s.job t))),
       )
   | inr f ↦
       let later : place_on c p (s ∷ ss) ≡ place_on c (suc p) ss = cond-false (under c s) p (place_on c (suc p) ss) f in (

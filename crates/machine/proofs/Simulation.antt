@@ -142,11 +142,11 @@ module _ (tasks : List Assigned) (st : State) (W : ℕ → Assigned → Watch) (
 
   pub on_time : Places (λ q t. OnTime (W q t)) 1 tasks
   on_time =
-      let in-times = all_places (λ x. InTime st.clock x.job x.due) 1 st.slots (in_time_lem st.cores st.clock tasks st.slots s.invariant) in
+      let in_times = all_places (λ x. InTime st.clock x.job x.due) 1 st.slots (in_time_lem st.cores st.clock tasks st.slots s.invariant) in
       subst (Places (λ q t. OnTime (W q t)) 1) s.invariant.same
       (places-map (λ q x. Read W q x × InTime st.clock x.job x.due) (λ q t. OnTime (W q t)) (λ x. x.task)
       (λ q x h. subst (λ (n : ℕ). Timely n (W q x.task).view) (sym (s.clocks q x.task)) (timely st.clock x.task x.job x.due (W q x.task).view h.0 h.1))
-      1 st.slots (places_both (Read W) (λ q x. InTime st.clock x.job x.due) 1 st.slots s.agree in-times))
+      1 st.slots (places_both (Read W) (λ q x. InTime st.clock x.job x.due) 1 st.slots s.agree in_times))
 
 -- a list of calls
 pub run_sim : (tasks : List Assigned) (calls : List Call) (st : State) (W : ℕ → Assigned → Watch) → Sim tasks st W → Sim tasks (finally st calls) (λ q t. watch t q (W q t) calls (answers st calls))
@@ -171,8 +171,8 @@ module _ (cores clock : ℕ) (tasks : List Assigned) (fit : Schedulable cores ta
 pub machine_never_late : MachineNeverLate
 machine_never_late cores clock tasks fit calls = on_time tasks (finally (start cores clock tasks) calls) (λ q t. watch t q (opening clock) calls (answers (start cores clock tasks) calls)) (from_start cores clock tasks fit calls)
 
-pub same_clock : SameClock
-same_clock cores clock tasks fit calls = (from_start cores clock tasks fit calls).clocks
+pub same_clock_lem : SameClock
+same_clock_lem cores clock tasks fit calls = (from_start cores clock tasks fit calls).clocks
 
-pub reading_agrees : ReadingAgrees
-reading_agrees cores clock tasks fit calls = (from_start cores clock tasks fit calls).agree
+pub reading_agrees_lem : ReadingAgrees
+reading_agrees_lem cores clock tasks fit calls = (from_start cores clock tasks fit calls).agree

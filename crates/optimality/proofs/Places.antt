@@ -36,8 +36,8 @@ module _ (limit : List Entry → ℕ → Option ℕ) (table : Table) where
         (sym (append_assoc before (place table x q ∷ []) (take i (places table ts rs)))) (s (suc i) t r (omega arith))),
   )
 
-pub fitting_is_by_place : FittingIsByPlace
-fitting_is_by_place limit table rs = (
+pub fitting_is_by_place_lem : FittingIsByPlace
+fitting_is_by_place_lem limit table rs = (
   λ f. record { count = fits_length limit table [] table.tasks rs f; suits = fits_at limit table [] table.tasks rs f },
   λ b. fits_from limit table [] table.tasks rs b.count b.suits,
 )

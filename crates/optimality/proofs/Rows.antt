@@ -15,7 +15,7 @@ use Rattle.cuts.specs.Allowed.{flags_at, Allowed, LeastCuts, cut_rank}
 use Rattle.cuts.specs.Best.{BestCuts}
 use Rattle.cuts.specs.Dynamic.{best_at}
 use Rattle.cuts.proofs.Ranges.{ranges}
-use Rattle.cuts.proofs.Dynamic.{best_cuts}
+use Rattle.cuts.proofs.Dynamic.{best_cuts_lem}
 use Rattle.plans.specs.declared.types.Row.{Row}
 use Rattle.plans.specs.declared.types.Placed.{Placed}
 use Rattle.plans.specs.Plans.{place, placed_with, places, on_core, Fits, Lawful, cost_of, cores, marks, rank, Choice}
@@ -30,7 +30,7 @@ use Rattle.optimality.proofs.Bounds.{heavy}
 
 -- where some cuts are allowed, some are chosen
 chosen_cuts : (lim : Option ℕ) (t : Task) (cuts : List Bool) → in_range t ≡ true → Allowed lim t cuts → (fs : List Bool) × LeastCuts lim t fs
-chosen_cuts lim t cuts h a = go (best_at lim t (get_or t.blocks 0 0) 0) (best_cuts lim t (ranges t h) t.blocks (best_at lim t (get_or t.blocks 0 0) 0) refl refl)
+chosen_cuts lim t cuts h a = go (best_at lim t (get_or t.blocks 0 0) 0) (best_cuts_lem lim t (ranges t h) t.blocks (best_at lim t (get_or t.blocks 0 0) 0) refl refl)
   where
     go : (o : Option Cuts) → BestCuts lim t o → (fs : List Bool) × LeastCuts lim t fs
     go None b = absurd (b cuts a)
@@ -107,6 +107,6 @@ module _ {accepts : List Entry → Type 0} {limit : List Entry → ℕ → Optio
       let rest : cores gs ++ marks ts gs ≡ cores rows ++ marks ts rows = cc in
       same_greedy limit table [] ts gs rows w long d (omega arith) (fronts_same (cores gs) (cores rows) (marks ts gs) (marks ts rows) (ap length s.2) rest).1 s.1 fits
 
-  pub choice_has_chosen_cuts : ChoiceHasChosenCuts accepts limit
-  choice_has_chosen_cuts table rows rules choice =
+  pub choice_has_chosen_cuts_lem : ChoiceHasChosenCuts accepts limit
+  choice_has_chosen_cuts_lem table rows rules choice =
       greedy_at limit table [] table.tasks rows (choice_greedy table rows rules choice) (fits_length limit table [] table.tasks rows choice.lawful.fits)

@@ -17,8 +17,8 @@ fronts_same (x ∷ xs) (y ∷ ys) fs gs l e =
     let r = fronts_same xs ys fs gs (omega arith) t in
     ((λ i. h i ∷ r.0 i), r.1)
 
-pub one_choice : (accepts : List Entry → Type 0) (limit : List Entry → ℕ → Option ℕ) → OneChoice accepts limit
-one_choice accepts limit table rs qs p q =
+pub one_choice_lem : (accepts : List Entry → Type 0) (limit : List Entry → ℕ → Option ℕ) → OneChoice accepts limit
+one_choice_lem accepts limit table rs qs p q =
     let ts = table.tasks in
     let e : rank table rs ≡ rank table qs = no_later_antisym (rank table rs) (rank table qs) (p.least qs q.lawful) (q.least rs p.lawful) in
     let price : cost table rs ≡ cost table qs = cc in

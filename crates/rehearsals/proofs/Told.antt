@@ -9,7 +9,7 @@ use Rattle.cuts.specs.Allowed.{flags_at}
 use Rattle.plans.specs.declared.types.Row.{Row}
 use Rattle.plans.specs.Plans.{Lawful, Choice, cores, marks}
 use Rattle.optimality.proofs.Greedy.{marks-length}
-use Rattle.optimality.proofs.Unique.{fronts_same, one_choice}
+use Rattle.optimality.proofs.Unique.{fronts_same, one_choice_lem}
 use Rattle.sheet.proofs.Once.{one_table, never_both, one_refusal}
 use Rattle.sheet.specs.Sheets.{Granted}
 use Rattle.writer.specs.Lines.{refusal_line}
@@ -48,7 +48,7 @@ lines_same (t ∷ ts) (r ∷ rs) (q ∷ qs) c m =
 
 one_text_of : (table : Table) (rs qs : List Row) → Choice EdfAccepts edf_limit table rs → Choice EdfAccepts edf_limit table qs → plan_text table rs ≡ plan_text table qs
 one_text_of table rs qs p q =
-    let same = one_choice EdfAccepts edf_limit table rs qs p q in
+    let same = one_choice_lem EdfAccepts edf_limit table rs qs p q in
     let lines = lines_same table.tasks rs qs same.1 same.2 in
     λ i. codes "(plan (cores " ++ decimal table.cores ++ codes ") (span " ++ decimal (span_of (periods table.tasks)) ++ codes ") (cost " ++ decimal (same.0 i) ++ codes "))\n" ++ lines i
 

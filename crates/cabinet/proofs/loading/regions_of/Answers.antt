@@ -40,26 +40,26 @@ loop-j-preserved c =
     let j = c.loop-j.j in
     let n = c.loop-j.length in
     let done = list_of c.loop-j.ended in
-    let in-points = c.loop-j-test.true in
-    let in-flags : j < length fs = omega arith in
+    let in_points = c.loop-j-test.true in
+    let in_flags : j < length fs = omega arith in
     let after : ℕ → List ℕ = λ m. regions_from m (drop (j + 1 + 1) bs) (drop (j + 1) ps) (drop (j + 1) fs) in
     let next : ℕ = get_or ps j 0 + get_or bs (j + 1) 0 in
     elim c.if-cuts-j.branch [
       | then-cuts-j w ↦ (
           let more = ap list_of w.ended-is ∙ pushed done (list_of w.push.new.self) n 16 w.push.result w.push.ensures.items w.push.ensures.test (omega (arith, c.loop-j.invariant.1, r.fewer, r.few)) in (
             ap (λ m. list_of c.if-cuts-j.ended ++ after m) w.length-is ∙ ap (λ l. l ++ after next) more ∙ append_assoc done (n ∷ []) (after next)
-                ∙ sym (ap (λ l. done ++ l) (regions_cut bs ps fs n j (in_blocks r j in-points) in-points in-flags w.if-cuts-j.true))
+                ∙ sym (ap (λ l. done ++ l) (regions_cut bs ps fs n j (in_blocks r j in_points) in_points in_flags w.if-cuts-j.true))
                 ∙ c.loop-j.invariant.0,
             omega (arith, ap length more, length_push done n, c.loop-j.invariant.1),
-            omega (arith, w.length-is, cost_at_lem r j in-points, block_after r j in-points),
+            omega (arith, w.length-is, cost_at_lem r j in_points, block_after r j in_points),
           )
           )
       | else-cuts-j w ↦ (
         ap (λ m. list_of c.if-cuts-j.ended ++ after m) w.length-is ∙ ap (λ b. list_of b ++ after (n + get_or bs (j + 1) 0)) w.ended-is
-            ∙ sym (ap (λ l. done ++ l) (regions-on bs ps fs n j (in_blocks r j in-points) in-points in-flags w.if-cuts-j.false))
+            ∙ sym (ap (λ l. done ++ l) (regions-on bs ps fs n j (in_blocks r j in_points) in_points in_flags w.if-cuts-j.false))
             ∙ c.loop-j.invariant.0,
         omega (arith, ap (λ b. length (list_of b)) w.ended-is, c.loop-j.invariant.1),
-        omega (arith, w.length-is, block_after r j in-points, c.loop-j.invariant.2),
+        omega (arith, w.length-is, block_after r j in_points, c.loop-j.invariant.2),
       )
     ]
 

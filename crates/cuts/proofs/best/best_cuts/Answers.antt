@@ -1,7 +1,7 @@
 use Rattle.std.proofs.Common.{◌-◌, ◌<◌, length, ap, ◌∙◌, arith, length-set}
 use Rattle.tasks.specs.Stored.{task_of}
 use Rattle.cuts.proofs.Ranges.{ranges, ranges_at, first_block, cost_at_lem, block_after}
-use Rattle.cuts.proofs.Dynamic.{known_more, cut_known, best_cuts}
+use Rattle.cuts.proofs.Dynamic.{known_more, cut_known, best_cuts_lem}
 use Rattle.cuts.proofs.best.best_cuts.Goals as goal
 
 pub overflow_add-points : goal.overflow_add-points
@@ -9,19 +9,19 @@ overflow_add-points c =
     let bs = c.as_slice-blocks.result.now in
     let ps = c.as_slice-points.result.now in
     let r = ranges_at (task_of c.args.task.now) bs ps c.as_slice-blocks.ensures.value c.as_slice-points.ensures.value c.requires in
-    let in-points : c.loop-j.j - 1 < length ps = omega (arith, c.loop-j.auto.j, c.loop-j-test.true) in
-    omega (arith, cost_at_lem r (c.loop-j.j - 1) in-points, block_after r (c.loop-j.j - 1) in-points)
+    let in_points : c.loop-j.j - 1 < length ps = omega (arith, c.loop-j.auto.j, c.loop-j-test.true) in
+    omega (arith, cost_at_lem r (c.loop-j.j - 1) in_points, block_after r (c.loop-j.j - 1) in_points)
 
 pub best_from-rest-requires : goal.best_from-rest-requires
 best_from-rest-requires c =
     let bs = c.as_slice-blocks.result.now in
     let ps = c.as_slice-points.result.now in
     let r = ranges_at (task_of c.args.task.now) bs ps c.as_slice-blocks.ensures.value c.as_slice-points.ensures.value c.requires in
-    let in-points : c.loop-j.j - 1 < length ps = omega (arith, c.loop-j.auto.j, c.loop-j-test.true) in
+    let in_points : c.loop-j.j - 1 < length ps = omega (arith, c.loop-j.auto.j, c.loop-j-test.true) in
     record {
       ranges = c.requires;
-      place = omega (arith, ap length c.as_slice-points.ensures.value, in-points);
-      short = omega (arith, cost_at_lem r (c.loop-j.j - 1) in-points, block_after r (c.loop-j.j - 1) in-points);
+      place = omega (arith, ap length c.as_slice-points.ensures.value, in_points);
+      short = omega (arith, cost_at_lem r (c.loop-j.j - 1) in_points, block_after r (c.loop-j.j - 1) in_points);
       known = λ e le lt. c.loop-j.invariant.1 e (omega arith) lt;
     }
 
@@ -30,10 +30,10 @@ with_cut-requires c =
     let bs = c.as_slice-blocks.result.now in
     let ps = c.as_slice-points.result.now in
     let r = ranges_at (task_of c.args.task.now) bs ps c.as_slice-blocks.ensures.value c.as_slice-points.ensures.value c.requires in
-    let in-points : c.loop-j.j - 1 < length ps = omega (arith, c.loop-j.auto.j, c.loop-j-test.true) in
+    let in_points : c.loop-j.j - 1 < length ps = omega (arith, c.loop-j.auto.j, c.loop-j-test.true) in
     record {
-      place = omega (arith, in-points, r.few, r.fewer);
-      small = cost_at_lem r (c.loop-j.j - 1) in-points;
+      place = omega (arith, in_points, r.few, r.fewer);
+      small = cost_at_lem r (c.loop-j.j - 1) in_points;
       bound = c.best_from-rest.ensures.bound;
     }
 
@@ -65,6 +65,6 @@ pub returns : goal.returns
 returns c =
     let t = task_of c.args.task.now in
     record {
-      best = best_cuts c.args.limit t (ranges t c.requires) c.as_slice-blocks.result.now c.best_from.result c.as_slice-blocks.ensures.value c.best_from.ensures.value;
+      best = best_cuts_lem c.args.limit t (ranges t c.requires) c.as_slice-blocks.result.now c.best_from.result c.as_slice-blocks.ensures.value c.best_from.ensures.value;
       bound = c.best_from.ensures.bound;
     }

@@ -12,9 +12,9 @@ overflow_add-length-in-loop-j c =
     let t = task_of c.args.task.now in
     let r = ranges t c.requires.ranges in
     let e = c.loop-j.j in
-    let in-points : e < length t.points = omega (arith, ap length c.as_slice-points.ensures.value, c.loop-j-test.true) in
+    let in_points : e < length t.points = omega (arith, ap length c.as_slice-points.ensures.value, c.loop-j-test.true) in
     let same : get_or c.as_slice-blocks.result.now (e + 1) 0 ≡ get_or t.blocks (e + 1) 0 = ap (λ xs. get_or xs (e + 1) 0) c.as_slice-blocks.ensures.value in
-    omega (arith, same, block_after r e in-points, c.loop-j.invariant.0, r.few, r.fewer)
+    omega (arith, same, block_after r e in_points, c.loop-j.invariant.0, r.few, r.fewer)
 
 pub loop-j-preserved : goal.loop-j-preserved
 loop-j-preserved c =
@@ -24,14 +24,14 @@ loop-j-preserved c =
     let e = c.loop-j.j in
     let n = c.loop-j.length in
     let found = c.loop-j.found in
-    let in-points : e < length t.points = omega (arith, ap length c.as_slice-points.ensures.value, c.loop-j-test.true) in
+    let in_points : e < length t.points = omega (arith, ap length c.as_slice-points.ensures.value, c.loop-j-test.true) in
     let same : get_or c.as_slice-blocks.result.now (e + 1) 0 ≡ get_or t.blocks (e + 1) 0 = ap (λ xs. get_or xs (e + 1) 0) c.as_slice-blocks.ensures.value in
     let next = ap (λ b. cheaper_of c.if-is_within.found (best_at limit t (n + b) (e + 1))) same in
-    let known = c.requires.known e c.loop-j.auto.j in-points in (
-      omega (arith, same, block_after r e in-points, c.loop-j.invariant.0),
+    let known = c.requires.known e c.loop-j.auto.j in_points in (
+      omega (arith, same, block_after r e in_points, c.loop-j.invariant.0),
       elim c.if-is_within.branch [
-        | then-is_within w ↦ next ∙ scan_more limit t r n e true found c.if-is_within.found in-points w.if-is_within.ensures (w.found-is ∙ w.cheaper-found.ensures ∙ ap (cheaper_of found) known) ∙ c.loop-j.invariant.1
-        | else-is_within w ↦ next ∙ scan_more limit t r n e false found c.if-is_within.found in-points w.if-is_within.ensures w.found-is ∙ c.loop-j.invariant.1
+        | then-is_within w ↦ next ∙ scan_more limit t r n e true found c.if-is_within.found in_points w.if-is_within.ensures (w.found-is ∙ w.cheaper-found.ensures ∙ ap (cheaper_of found) known) ∙ c.loop-j.invariant.1
+        | else-is_within w ↦ next ∙ scan_more limit t r n e false found c.if-is_within.found in_points w.if-is_within.ensures w.found-is ∙ c.loop-j.invariant.1
       ],
     )
 

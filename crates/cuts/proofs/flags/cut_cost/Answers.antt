@@ -18,10 +18,10 @@ pub loop-j-preserved : goal.loop-j-preserved
 loop-j-preserved c =
     let ps = c.as_slice-points.result.now in
     let fs = c.args.cuts.now in
-    let in-flags : c.loop-j.j < length fs = omega arith in
+    let in_flags : c.loop-j.j < length fs = omega arith in
     elim c.if-cuts-j.branch [
-      | then-cuts-j w ↦ omega (arith, cost_cut ps fs c.loop-j.j c.loop-j-test.true in-flags w.if-cuts-j.true, c.loop-j.invariant, w.cost-is)
-      | else-cuts-j w ↦ omega (arith, cost-on ps fs c.loop-j.j c.loop-j-test.true in-flags w.if-cuts-j.false, c.loop-j.invariant, w.cost-is)
+      | then-cuts-j w ↦ omega (arith, cost_cut ps fs c.loop-j.j c.loop-j-test.true in_flags w.if-cuts-j.true, c.loop-j.invariant, w.cost-is)
+      | else-cuts-j w ↦ omega (arith, cost-on ps fs c.loop-j.j c.loop-j-test.true in_flags w.if-cuts-j.false, c.loop-j.invariant, w.cost-is)
     ]
 
 pub returns : goal.returns

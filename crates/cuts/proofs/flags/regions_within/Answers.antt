@@ -26,11 +26,11 @@ returns-then-not-is_within c =
     let fs = c.args.cuts.now in
     let j = c.loop-j.j in
     let test = every (within c.args.limit) in
-    let in-flags : j < length fs = omega arith in
+    let in_flags : j < length fs = omega arith in
     let rest = regions_from (get_or ps j 0 + get_or bs (j + 1) 0) (drop (j + 1 + 1) bs) (drop (j + 1) ps) (drop (j + 1) fs) in
     let whole : test (regions_of bs ps fs) ≡ test (regions (task_of c.args.task.now) fs) = λ i. test (regions_of (c.as_slice-blocks.ensures.value i) (c.as_slice-points.ensures.value i) fs) in
     ap (λ b. b && test rest) c.if-not-is_within.ensures
-    ∙ sym (ap test (regions_cut bs ps fs c.loop-j.length j (in_blocks r j c.loop-j-test.true) c.loop-j-test.true in-flags c.if-cuts-j.true))
+    ∙ sym (ap test (regions_cut bs ps fs c.loop-j.length j (in_blocks r j c.loop-j-test.true) c.loop-j-test.true in_flags c.if-cuts-j.true))
     ∙ c.loop-j.invariant.0 ∙ whole
 
 pub overflow_add-length-then-cuts-j : goal.overflow_add-length-then-cuts-j
@@ -56,22 +56,22 @@ loop-j-preserved c =
     let j = c.loop-j.j in
     let n = c.loop-j.length in
     let test = every (within c.args.limit) in
-    let in-points = c.loop-j-test.true in
-    let in-flags : j < length fs = omega arith in
+    let in_points = c.loop-j-test.true in
+    let in_flags : j < length fs = omega arith in
     let after : ℕ → List ℕ = λ m. regions_from m (drop (j + 1 + 1) bs) (drop (j + 1) ps) (drop (j + 1) fs) in
     elim c.if-cuts-j.branch [
       | then-cuts-j+else-not-is_within w ↦ (
         ap (λ m. test (after m)) w.length-is
             ∙ ap (λ b. b && test (after (get_or ps j 0 + get_or bs (j + 1) 0))) w.if-not-is_within.ensures
-            ∙ sym (ap test (regions_cut bs ps fs n j (in_blocks r j in-points) in-points in-flags w.if-cuts-j.true))
+            ∙ sym (ap test (regions_cut bs ps fs n j (in_blocks r j in_points) in_points in_flags w.if-cuts-j.true))
             ∙ c.loop-j.invariant.0,
-        omega (arith, w.length-is, cost_at_lem r j in-points, block_after r j in-points),
+        omega (arith, w.length-is, cost_at_lem r j in_points, block_after r j in_points),
       )
       | else-cuts-j w ↦ (
         ap (λ m. test (after m)) w.length-is
-            ∙ sym (ap test (regions-on bs ps fs n j (in_blocks r j in-points) in-points in-flags w.if-cuts-j.false))
+            ∙ sym (ap test (regions-on bs ps fs n j (in_blocks r j in_points) in_points in_flags w.if-cuts-j.false))
             ∙ c.loop-j.invariant.0,
-        omega (arith, w.length-is, block_after r j in-points, c.loop-j.invariant.1),
+        omega (arith, w.length-is, block_after r j in_points, c.loop-j.invariant.1),
       )
     ]
 

@@ -15,12 +15,12 @@ loop-i-preserved c =
     let old = c.args.log.now in
     let i = c.loop-i.i in
     let r = c.answer.result in
-    let in-calls : i < length calls = omega arith in
-    let in-log : i < length log = omega arith in
+    let in_calls : i < length calls = omega arith in
+    let in_log : i < length log = omega arith in
     let replied = sym (ap (λ x. x.1) c.answer.ensures) in (
-      finally-more st calls i _ in-calls now c.loop-i.invariant.0 (state c.answer.new.self) (sym (ap (λ x. x.0) c.answer.ensures)),
-      ap (map reply_of) (take_more_set log i r in-log) ∙ map-append reply_of (take i log) (r ∷ [])
-          ∙ answers-more st calls i _ in-calls now c.loop-i.invariant.0 (map reply_of (take i log)) (reply_of r) c.loop-i.invariant.1 replied,
+      finally-more st calls i _ in_calls now c.loop-i.invariant.0 (state c.answer.new.self) (sym (ap (λ x. x.0) c.answer.ensures)),
+      ap (map reply_of) (take_more_set log i r in_log) ∙ map-append reply_of (take i log) (r ∷ [])
+          ∙ answers-more st calls i _ in_calls now c.loop-i.invariant.0 (map reply_of (take i log)) (reply_of r) c.loop-i.invariant.1 replied,
       drop-set-lt (i + 1) log i r (omega arith) ∙ sym (drop-drop 1 i log) ∙ ap (drop 1) c.loop-i.invariant.2 ∙ drop-drop 1 i old,
     )
 

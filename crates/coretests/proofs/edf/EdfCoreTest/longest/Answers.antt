@@ -52,11 +52,11 @@ moments-init c =
     let h = c.in-Some.ensures.0 in
     let range = asked xs d h in
     let low : 1 ≤ first = omega (arith, (in_range_at xs 0 (ok xs d h) item.0).deadline_low) in
-    let best-is : best ≡ slack xs first = c.saturating_sub-best.ensures ∙ ap (λ n. first - n) c.demand_at.ensures in
+    let best_is : best ≡ slack xs first = c.saturating_sub-best.ensures ∙ ap (λ n. first - n) c.demand_at.ensures in
     let past : (s : ℕ) → r < s → s ≤ d - 1 → best ≤ slack xs s = λ s u v. omega (arith, c.last_tight-t.ensures.past s u v) in
     let whole : d - 1 + 1 - first ≡ d - first = omega arith in
     let member : AtMost (least (slack xs) first (d - first)) (Some best) =
-    rw best-is (least_at (slack xs) first (d - first) first (omega arith) (omega arith)) in (
+    rw best_is (least_at (slack xs) first (d - first) first (omega arith) (omega arith)) in (
       low,
       omega (arith, c.last_tight-t.ensures.within),
       omega arith,
@@ -104,14 +104,14 @@ moments-preserved c =
     let first = c.in_ok-first.field-0.now.deadline in
     let sure = ok xs c.args.d c.in-Some.ensures.0 in
     let is : due ≡ demand xs t = c.loop-x.invariant.0 ∙ demand_whole xs t c.loop-x.x-index c.loop-x-test.false in
-    let best-is : best ≡ min c.moments.best (t - due) = c.min-best.ensures in
-    let r-is : r ≡ best + due - 1 = c.saturating_sub-t.ensures in
+    let best_is : best ≡ min c.moments.best (t - due) = c.min-best.ensures in
+    let r_is : r ≡ best + due - 1 = c.saturating_sub-t.ensures in
     let down : r ≤ t = omega (arith, c.loop-x.invariant.1) in (
       c.moments.invariant.0,
       omega (arith, c.moments.invariant.1),
       omega (arith, c.moments.invariant.2),
       slack_skip xs first r t best down (λ s u v. slack_down xs t due best s sure is (omega arith) v)
-          ∙ ap (λ n. lesser (Some n) (least (slack xs) first (t + 1 - first))) best-is
+          ∙ ap (λ n. lesser (Some n) (least (slack xs) first (t + 1 - first))) best_is
           ∙ lesser_joins c.moments.best (t - due) (least (slack xs) first (t + 1 - first)) (slack_at xs first t due is c.if-t-first.false)
           ∙ c.moments.invariant.3,
     )

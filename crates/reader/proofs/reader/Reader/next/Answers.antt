@@ -24,13 +24,13 @@ returns c =
       | in-Letter w ↦
           let m = w.run_len.result in
           let told = w.run_len.ensures in
-          let zero-off : m - 0 ≡ m = omega arith in
-          by_front a _ _ _ tail m _ here refl refl refl width w.token-is (ap (λ n. take n tail) zero-off) told.within (subst (λ n. Run IsLetter (take n tail) × Ends IsLetter (drop m tail)) (sym zero-off) (counted IsLetter kinds.Letter class_letter letter_class tail m some (kind_letter (get_or tail 0 0) w.in-Letter.ensures) told.within told.all told.stops))
+          let zero_off : m - 0 ≡ m = omega arith in
+          by_front a _ _ _ tail m _ here refl refl refl width w.token-is (ap (λ n. take n tail) zero_off) told.within (subst (λ n. Run IsLetter (take n tail) × Ends IsLetter (drop m tail)) (sym zero_off) (counted IsLetter kinds.Letter class_letter letter_class tail m some (kind_letter (get_or tail 0 0) w.in-Letter.ensures) told.within told.all told.stops))
       | in-Zero w ↦
           let m = w.run_len-in-Zero.result in
           let told = w.run_len-in-Zero.ensures in
-          let zero-off : m - 0 ≡ m = omega arith in
-          by_front a _ _ _ tail m _ here refl refl refl width w.token-is (ap (λ n. take n tail) zero-off) told.within (subst (λ n. Run IsDigit (take n tail) × Ends IsDigit (drop m tail)) (sym zero-off) (counted IsDigit kinds.Digit class_figure figure_class tail m some (kind_figure (get_or tail 0 0) c.kind_of-kind.result c.kind_of-kind.ensures w.in-Zero.is) told.within told.all told.stops))
+          let zero_off : m - 0 ≡ m = omega arith in
+          by_front a _ _ _ tail m _ here refl refl refl width w.token-is (ap (λ n. take n tail) zero_off) told.within (subst (λ n. Run IsDigit (take n tail) × Ends IsDigit (drop m tail)) (sym zero_off) (counted IsDigit kinds.Digit class_figure figure_class tail m some (kind_figure (get_or tail 0 0) c.kind_of-kind.result c.kind_of-kind.ensures w.in-Zero.is) told.within told.all told.stops))
     ]
 
 pub returns-then-is_empty : goal.returns-then-is_empty
