@@ -13,14 +13,12 @@ use coretests::{Edf, EdfPile};
 pub use plan_writer::MAX_TEXT;
 use plan_writer::write_plan;
 use planning::plan;
+pub use press::MAX_SHEET;
 pub use rehearsal::rehearse;
 use sheet::read_sheet;
 use tasks::{Draft, Refusal, Sealed};
 pub use types::Rehearsal;
 use writer::write_refusal;
-
-// How much of its input a program hands over; what lies beyond is not seen.
-pub const MAX_SHEET: u64 = 65_536;
 
 // Plans the table under a pile over EDF, and clears the plan.
 pub fn plan_and_clear<P: EdfPile>(

@@ -15,7 +15,7 @@ stored_long c = sym (length_stored c.tasks-tasks.result.now) ∙ ap length c.tas
 
 pub returns-then-rows-tasks : goal.returns-then-rows-tasks
 returns-then-rows-tasks c =
-    sym (rows_miscounted (sealed c.args.table.now) c.args.rows.now (λ e. c.if-rows-tasks.true (e ∙ sym (stored_long (goal.at.returns-then-rows-tasks c).After-tasks-tasks))))
+    sym (rows_miscounted (sealed c.args.table.now) c.args.rows.now (λ e. omega (arith, e, stored_long (goal.at.returns-then-rows-tasks c).After-tasks-tasks)))
 
 pub loop-i-init : goal.loop-i-init
 loop-i-init c = ap (λ ts. row_refusal c.args.table.now.cores 1 ts c.args.rows.now) c.tasks-tasks.ensures
