@@ -1,6 +1,6 @@
 -- The span of a list of periods: their least common multiple.
 use Rattle.std.specs.Prelude.{◌≡◌, ℕ, zero, suc, ◌*◌, ◌/◌, ◌%◌, ◌<◌, ◌≤◌, ◌⊎◌, List, [], ◌∷◌, Some, None, Option}
-use Rattle.std.specs.List.{ContainsAt as Has, AllByRecursion}
+use Rattle.std.specs.List.{Contains, AllByRecursion}
 
 -- Euclid's algorithm, in at most so many steps
 unfoldable pub gcd_by : ℕ → ℕ → ℕ → ℕ
@@ -49,4 +49,4 @@ pub record Spanned (ps : List ℕ) (m : ℕ) : Type 0 where
 -- what is answered for a list of numbers: its span, or none where a number is 0 or the span is above a million
 abbrev pub SpanWithin : List ℕ → Option ℕ → Type 0
 SpanWithin ps (Some m) = Spanned ps m
-SpanWithin ps None = Has ps 0 ⊎ (1000000 < span_of ps)
+SpanWithin ps None = Contains ps 0 ⊎ (1000000 < span_of ps)

@@ -2,7 +2,8 @@
 #![tactic(auto)]
 
 ghost use Rattle.std.specs.Prelude.{◌≡◌, ℕ, ◌<◌, ◌≤◌, map, MatchOption};
-ghost use Rattle.span.specs.Spans.{gcd_of, lcm_of, SpanWithin};
+ghost use Rattle.std.specs.Int.{IsGcd};
+ghost use Rattle.span.specs.Spans.{lcm_of, SpanWithin};
 
 // The longest span that is answered.
 pub const MAX_SPAN: u32 = 1_000_000;
@@ -25,7 +26,7 @@ impl Periodic for u32 {
 
 // The greatest common divisor, by Euclid's algorithm.
 fn gcd(a: u64, b: u64) -> u64
-    ensures { result ≡ gcd_of a b }
+    ensures { IsGcd a b result }
 {
     let mut x = a;
     let mut y = b;
@@ -46,10 +47,7 @@ fn join(span: u32, period: u32) -> Option<u32>
     let b = u64::from(period);
     // In 64 bits the product of two numbers of 32 bits does not wrap.
     let joined = a / gcd(a, b) * b;
-    if joined > u64::from(MAX_SPAN) {
-        return None;
-    }
-    Some(joined as u32)
+    u32::try_from(joined).ok().filter(|m| *m <= MAX_SPAN)
 }
 
 // The span of the periods of the items, unless one of them is 0 or the span is longer than the longest.

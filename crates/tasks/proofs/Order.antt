@@ -1,30 +1,31 @@
 -- What one more task leaves of the order, the ids and the ranges. Assumes nothing.
-use Rattle.std.proofs.Common.{◌≡◌, ℕ, suc, ◌+◌, ◌≤◌, Bool, true, false, cond, not, ◌||◌, eqb, leb, List, [], ◌∷◌, length, sym, refl, ap, ◌∙◌, arith}
-use Rattle.std.specs.List.{insert as inserted_at}
+use Rattle.std.proofs.Common.{◌≡◌, ℕ, suc, ◌+◌, Bool, true, false, cond, not, ◌||◌, eqb, leb, List, [], ◌∷◌, length, sym, refl, ap, ◌∙◌, arith}
+use Rattle.std.specs.List.{insert as inserted_at, list_any, prefix_len}
 use Rattle.std.proofs.lemmas.Bool.{and_parts, and_from}
 use Rattle.std.proofs.lemmas.Bool.Decides.{nat_tests}
 use Rattle.tasks.specs.declared.task.Task.{Task as Stored}
 use Rattle.tasks.specs.Tasks.{Task, every, has_id, distinct, ordered_from, inserted}
-use Rattle.tasks.specs.Places.{place_for}
 use Rattle.tasks.specs.Stored.{task_of, tasks_of}
 
-pub place_le : (d : ℕ) (ts : List Stored) → place_for d (tasks_of ts) ≤ length ts
-place_le d [] = omega arith
-place_le d (t ∷ ts) =
-    let more = place_le d ts in
-    elim (leb t.deadline d) as (λ b. cond b (suc (place_for d (tasks_of ts))) 0 ≤ length (t ∷ ts)) [ true ↦ omega arith | false ↦ omega arith ]
+-- how many tasks stand at the front whose deadline is not later than d
+abbrev pub not_later : ℕ → List Stored → ℕ
+not_later d ts = prefix_len (λ t. leb t.deadline d) ts
+
+pub has_stored : (n : ℕ) (ts : List Stored) → list_any (λ t. eqb t.id n) ts ≡ has_id n (tasks_of ts)
+has_stored n [] = refl
+has_stored n (t ∷ ts) = ap (λ b. eqb t.id n || b) (has_stored n ts)
 
 -- put in at its place, a stored task stands where the rule has it
-pub stored_inserted : (x : Stored) (ts : List Stored) → tasks_of (inserted_at ts (place_for x.deadline (tasks_of ts)) x) ≡ inserted (task_of x) (tasks_of ts)
+pub stored_inserted : (x : Stored) (ts : List Stored) → tasks_of (inserted_at ts (not_later x.deadline ts) x) ≡ inserted (task_of x) (tasks_of ts)
 stored_inserted x [] = refl
 stored_inserted x (t ∷ ts) =
-    elim (leb t.deadline x.deadline) as (λ b. tasks_of (inserted_at (t ∷ ts) (cond b (suc (place_for x.deadline (tasks_of ts))) 0) x) ≡ cond b (task_of t ∷ inserted (task_of x) (tasks_of ts)) (task_of x ∷ task_of t ∷ tasks_of ts))
-    [ true ↦ ap (λ l. task_of t ∷ l) (stored_inserted x ts) | false ↦ refl ]
+    elim (leb t.deadline x.deadline) as (λ b. tasks_of (inserted_at (t ∷ ts) (cond b (1 + not_later x.deadline ts) 0) x) ≡ cond b (task_of t ∷ inserted (task_of x) (tasks_of ts)) (task_of x ∷ task_of t ∷ tasks_of ts)) [
+      | true ↦ ap (λ n. tasks_of (inserted_at (t ∷ ts) n x)) {x = 1 + not_later x.deadline ts} {y = suc (not_later x.deadline ts)} (omega arith) ∙ ap (λ l. task_of t ∷ l) (stored_inserted x ts)
+      | false ↦ refl
+    ]
 
-pub put_in : (x : Stored) (new : Task) (ts : List Stored) (i : ℕ) → task_of x ≡ new → i ≡ place_for new.deadline (tasks_of ts) → tasks_of (inserted_at ts i x) ≡ inserted new (tasks_of ts)
-put_in x new ts i is at =
-    ap (λ n. tasks_of (inserted_at ts n x)) (at ∙ ap (λ (t : Task). place_for t.deadline (tasks_of ts)) (sym is))
-    ∙ stored_inserted x ts ∙ ap (λ t. inserted t (tasks_of ts)) is
+pub put_in : (x : Stored) (new : Task) (ts : List Stored) (i : ℕ) → task_of x ≡ new → i ≡ not_later new.deadline ts → tasks_of (inserted_at ts i x) ≡ inserted new (tasks_of ts)
+put_in x new ts i is at = ap (λ n. tasks_of (inserted_at ts n x)) (at ∙ ap (λ (t : Task). not_later t.deadline ts) (sym is)) ∙ stored_inserted x ts ∙ ap (λ t. inserted t (tasks_of ts)) is
 
 pub length_stored : (ts : List Stored) → length (tasks_of ts) ≡ length ts
 length_stored [] = refl

@@ -3,4 +3,3 @@ pub mod Tasks
 pub mod Cuts
 pub mod Stored
 pub mod Tables
-pub mod Places

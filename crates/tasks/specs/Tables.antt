@@ -7,14 +7,18 @@ use Rattle.tasks.specs.Tasks.{Task, Table, between, in_range, has_id, periods, i
 use Rattle.tasks.specs.Stored.{table_of}
 use Rattle.tasks.specs.declared.refusal.Refusal.{Refusal}
 use Rattle.tasks.specs.declared.refusal.Refusal.TheVariants.{OutOfRange, IdTaken, TableFull, LongSpan}
+use Rattle.tasks.specs.declared.table.Held.{Held}
 use Rattle.tasks.specs.declared.table.Draft.{Draft}
 use Rattle.tasks.specs.declared.table.Sealed.{Sealed}
 
+abbrev pub held : Held → Table
+held t = table_of t.cores (list_of t.tasks)
+
 abbrev pub drafted : Draft → Table
-drafted d = table_of d.cores (list_of d.tasks)
+drafted d = held d.table
 
 abbrev pub sealed : Sealed → Table
-sealed s = table_of s.cores (list_of s.tasks)
+sealed s = held s.table
 
 -- why a task is refused beside those of the table, if it is; `at` is the place that the refusal names
 abbrev pub add_refusal : ℕ → Table → Task → Option Refusal

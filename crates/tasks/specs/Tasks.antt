@@ -1,5 +1,6 @@
 -- Tasks and tables of tasks: their ranges, their order, and where one more task goes.
-use Rattle.std.specs.Prelude.{ℕ, ◌+◌, ◌/◌, Bool, true, false, cond, not, ◌&&◌, ◌||◌, List, [], ◌∷◌, map, length, ◌==◌, nat_le}
+use Rattle.std.specs.Prelude.{ℕ, ◌+◌, ◌/◌, Bool, true, cond, not, ◌&&◌, List, [], ◌∷◌, map, length, ◌==◌, nat_le}
+use Rattle.std.specs.List.{list_all, list_any}
 use Rattle.span.specs.Spans.{span_of}
 
 -- A task is released at most once a period, and is due `deadline` ticks after its release.
@@ -22,8 +23,7 @@ between low high n = nat_le low n && nat_le n high
 
 -- each element passes the test
 abbrev pub every : {X : Type 0} → (X → Bool) → List X → Bool
-every test [] = true
-every test (x ∷ xs) = test x && every test xs
+every test xs = list_all test xs
 
 -- 1 to 16 blocks, and exactly one point fewer
 abbrev pub points_match : Task → Bool
@@ -41,8 +41,7 @@ in_range t =
 
 -- some task has the id
 abbrev pub has_id : ℕ → List Task → Bool
-has_id n [] = false
-has_id n (t ∷ ts) = t.id == n || has_id n ts
+has_id n ts = list_any (λ t. t.id == n) ts
 
 -- no id twice
 abbrev pub distinct : List Task → Bool

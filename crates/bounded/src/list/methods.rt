@@ -1,11 +1,12 @@
-ghost use Rattle.std.specs.Prelude.{◌≡◌, ◌+◌, ◌-◌, ◌<◌, ◌≤◌, true, false, [], ◌∷◌, ◌++◌, length, take, is_some, if◌then◌else◌, nat_le, nat_lt, slice_index_or, slice_set};
+ghost use Rattle.std.specs.Prelude.{◌≡◌, ◌+◌, ◌-◌, ◌<◌, ◌≤◌, ◌↔◌, [], ◌∷◌, ◌++◌, length, take, is_some, nat_lt, slice_index_or, slice_set, IsOk, OnOk, OnErr};
 ghost use Rattle.std.specs.List.{insert};
 ghost use Rattle.std.specs.Option.{option_to_list as item_of};
 ghost use Rattle.bounded.specs.Lists.{list_of};
 
-use super::Bounded;
+use super::{Bounded, Full};
 use std::alloc::AllocError;
 
+// By hand, since `Clone` cannot be derived for a generic struct with ghost fields.
 impl<T: Copy, const N: usize> Clone for Bounded<T, N> {
     ghost is_clone = { λ x y. y ≡ x };
 
@@ -13,6 +14,15 @@ impl<T: Copy, const N: usize> Clone for Bounded<T, N> {
 
     fn clone(&self) -> Result<Bounded<T, N>, AllocError> {
         Ok(*self)
+    }
+}
+
+// The empty list.
+impl<T: Copy + Default, const N: usize> Default for Bounded<T, N> {
+    ghost is_default = { λ b. list_of b ≡ [] };
+
+    fn default() -> Bounded<T, N> {
+        Bounded::new(T::default())
     }
 }
 
@@ -37,8 +47,7 @@ impl<T: Copy, const N: usize> Bounded<T, N> {
         ensures value { result.now ≡ list_of self.now }
         ensures bound { length result.now ≤ N }
     {
-        let all = &self.items[..];
-        &all[0..self.len]
+        &self.items[..self.len]
     }
 
     pub fn at(&self, index: usize) -> T
@@ -48,50 +57,48 @@ impl<T: Copy, const N: usize> Bounded<T, N> {
         self.items[index]
     }
 
-    pub fn push(&mut self, x: T) -> bool
-        ensures items { list_of self.new ≡ (if result then list_of self.old ++ x ∷ [] else list_of self.old) }
-        ensures test { result ≡ nat_lt (length (list_of self.old)) N }
+    pub fn push(&mut self, x: T) -> Result<(), Full>
+        ensures variant { IsOk result ↔ (length (list_of self.old) < N) }
+        ensures ok { OnOk result (list_of self.new ≡ list_of self.old ++ x ∷ []) }
+        ensures err { OnErr result (self.new ≡ self.old) }
     {
-        if self.len < N {
-            self.items[self.len] = x;
-            self.len += 1;
-            true
-        } else {
-            false
+        if self.len >= N {
+            return Err(Full);
         }
+        self.items[self.len] = x;
+        self.len += 1;
+        Ok(())
     }
 
     // All of `more` at the end, or nothing where there is no room for all.
-    pub fn extend_from_slice(&mut self, more: &[T]) -> bool
-        ensures items { list_of self.new ≡ (if result then list_of self.old ++ more.now else list_of self.old) }
-        ensures test { result ≡ nat_le (length (list_of self.old) + length more.now) N }
+    pub fn extend_from_slice(&mut self, more: &[T]) -> Result<(), Full>
+        ensures variant { IsOk result ↔ (length (list_of self.old) + length more.now ≤ N) }
+        ensures ok { OnOk result (list_of self.new ≡ list_of self.old ++ more.now) }
+        ensures err { OnErr result (self.new ≡ self.old) }
     {
         if more.len() > N - self.len {
-            return false;
+            return Err(Full);
         }
-        for x in more {
-            let _ = self.push(*x);
-        }
-        true
+        let end = self.len + more.len();
+        let items = &mut self.items[..];
+        items[self.len..end].copy_from_slice(more);
+        self.len = end;
+        Ok(())
     }
 
-    pub fn insert(&mut self, at: usize, x: T) -> bool
+    pub fn insert(&mut self, at: usize, x: T) -> Result<(), Full>
         requires { at ≤ length (list_of self.old) }
-        ensures items { list_of self.new ≡ (if result then insert (list_of self.old) at x else list_of self.old) }
-        ensures test { result ≡ nat_lt (length (list_of self.old)) N }
+        ensures variant { IsOk result ↔ (length (list_of self.old) < N) }
+        ensures ok { OnOk result (list_of self.new ≡ insert (list_of self.old) at x) }
+        ensures err { OnErr result (self.new ≡ self.old) }
     {
         if self.len >= N {
-            return false;
+            return Err(Full);
         }
-        let mut i = self.len;
-        while i > at {
-            let before = self.items[i - 1];
-            self.items[i] = before;
-            i -= 1;
-        }
+        self.items.copy_within(at..self.len, at + 1);
         self.items[at] = x;
         self.len += 1;
-        true
+        Ok(())
     }
 
     pub fn set(&mut self, place: usize, x: T)
@@ -104,9 +111,7 @@ impl<T: Copy, const N: usize> Bounded<T, N> {
     pub fn truncate(&mut self, len: usize)
         ensures { list_of self.new ≡ take len (list_of self.old) }
     {
-        if len < self.len {
-            self.len = len;
-        }
+        self.len = self.len.min(len);
     }
 
     pub fn clear(&mut self)
@@ -119,10 +124,7 @@ impl<T: Copy, const N: usize> Bounded<T, N> {
         ensures items { list_of self.old ≡ list_of self.new ++ item_of result }
         ensures test { is_some result ≡ nat_lt 0 (length (list_of self.old)) }
     {
-        if self.len == 0 {
-            return None;
-        }
-        self.len -= 1;
+        self.len = self.len.checked_sub(1)?;
         Some(self.items[self.len])
     }
 }

@@ -1,10 +1,9 @@
-use Rattle.std.proofs.Common.{sym, ap, ◌∙◌, arith}
-use Rattle.span.specs.Spans.{gcd_of}
-use Rattle.span.proofs.Divisors.{gcd_step, gcd_zero}
+use Rattle.std.proofs.Common.{arith}
+use Rattle.std.proofs.lemmas.Nat.Gcd.{IsGcd-from_zero, IsGcd-from_mod}
 use Rattle.span.proofs.gcd.Goals as goal
 
 pub loop-y-preserved : goal.loop-y-preserved
-loop-y-preserved c = gcd_step c.loop-y.x c.loop-y.y (omega arith) ∙ c.loop-y.invariant
+loop-y-preserved c g h = c.loop-y.invariant g (IsGcd-from_mod _ _ g h)
 
 pub returns : goal.returns
-returns c = sym (gcd_zero c.loop-y.x) ∙ sym (ap (gcd_of c.loop-y.x) c.loop-y-test.false) ∙ c.loop-y.invariant
+returns c = c.loop-y.invariant _ (IsGcd-from_zero _ _ (omega arith))

@@ -1,31 +1,14 @@
-ghost use Rattle.std.specs.Prelude.{◌≡◌, []};
-ghost use Rattle.bounded.specs.Lists.{list_of};
+ghost use Rattle.std.specs.Prelude.{◌≡◌};
 ghost use Rattle.tasks.specs.Stored.{proposed};
 ghost use Rattle.tasks.specs.Tasks.{empty_on};
 ghost use Rattle.tasks.specs.Tables.{drafted, sealed, Adds, NewDraft};
 
 use crate::proposal::Proposal;
-use crate::proposal::checks::is_between;
 use crate::refusal::Refusal;
-use crate::table::lists::{has_id, place_for};
-use crate::table::{Draft, MAX_CORES, MAX_TASKS, Sealed};
+use crate::table::lists::{has_id, no_tasks, place_for};
+use crate::table::{Draft, Held, MAX_CORES, MAX_TASKS, Sealed};
 use crate::task::Task;
-use bounded::Bounded;
 use span::span_of;
-
-// The tasks of an empty table.
-fn no_tasks() -> Bounded<Task, MAX_TASKS>
-    ensures { list_of result ≡ [] }
-{
-    let none = Task {
-        id: 0,
-        period: 1,
-        deadline: 1,
-        blocks: Bounded::new(0),
-        points: Bounded::new(0),
-    };
-    Bounded::new(none)
-}
 
 impl Draft {
     // A table of no task on one core.
@@ -33,12 +16,14 @@ impl Draft {
         ensures { drafted result ≡ empty_on 1 }
     {
         Draft {
-            cores: 1,
-            tasks: no_tasks(),
+            table: Held {
+                cores: 1,
+                tasks: no_tasks(),
+            },
         }
     }
 
-    // Empties the draft and sets its cores.
+    // Empties the draft and sets its cores. A refusal names the place 0: beside `new_draft_at`, for callers that have no sheet.
     pub fn new_draft(&mut self, cores: u32) -> Result<(), Refusal>
         ensures { NewDraft 0 self.old cores result self.new }
     {
@@ -49,15 +34,17 @@ impl Draft {
     pub fn new_draft_at(&mut self, at: usize, cores: u32) -> Result<(), Refusal>
         ensures { NewDraft at self.old cores result self.new }
     {
-        if !is_between(1, MAX_CORES, cores) {
+        if !(1..=MAX_CORES).contains(&cores) {
             return Err(Refusal::OutOfRange { at });
         }
-        self.cores = cores;
-        self.tasks.clear();
+        self.table = Held {
+            cores,
+            tasks: no_tasks(),
+        };
         Ok(())
     }
 
-    // Puts the task in after all tasks whose deadline is not later.
+    // Puts the task in after all tasks whose deadline is not later. A refusal names the place 0, as that of `new_draft` does.
     pub fn add(&mut self, task: &Proposal<'_>) -> Result<(), Refusal>
         ensures { Adds 0 self.old (proposed task.now) result self.new }
     {
@@ -68,10 +55,10 @@ impl Draft {
     pub fn add_at(&mut self, at: usize, task: &Proposal<'_>) -> Result<(), Refusal>
         ensures { Adds at self.old (proposed task.now) result self.new }
     {
-        if !task.is_in_range() {
+        let Ok(new) = Task::try_from(task) else {
             return Err(Refusal::OutOfRange { at });
-        }
-        let tasks = self.tasks.as_slice();
+        };
+        let tasks = self.table.tasks.as_slice();
         if has_id(tasks, task.id) {
             return Err(Refusal::IdTaken { at });
         }
@@ -79,13 +66,12 @@ impl Draft {
             return Err(Refusal::TableFull { at });
         }
         // The table is tried aside, and kept only if its span is short enough.
-        let place = place_for(tasks, task.deadline);
-        let mut next = self.tasks;
-        let _ = next.insert(place, task.stored());
+        let mut next = self.table.tasks;
+        let _ = next.insert(place_for(tasks, task.deadline), new);
         let Some(_) = span_of(next.as_slice()) else {
             return Err(Refusal::LongSpan { at });
         };
-        self.tasks = next;
+        self.table.tasks = next;
         Ok(())
     }
 
@@ -93,7 +79,6 @@ impl Draft {
     pub fn seal(self) -> Sealed
         ensures { sealed result ≡ drafted self }
     {
-        let Draft { cores, tasks } = self;
-        Sealed { cores, tasks }
+        Sealed { table: self.table }
     }
 }

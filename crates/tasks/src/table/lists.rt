@@ -1,30 +1,37 @@
-ghost use Rattle.std.specs.Prelude.{◌≡◌};
-ghost use Rattle.tasks.specs.Tasks.{has_id};
-ghost use Rattle.tasks.specs.Places.{place_for};
-ghost use Rattle.tasks.specs.Stored.{tasks_of};
+ghost use Rattle.std.specs.Prelude.{◌≡◌, ◌==◌, [], nat_le};
+ghost use Rattle.std.specs.List.{list_any, prefix_len};
+ghost use Rattle.bounded.specs.Lists.{list_of};
 
+use crate::table::MAX_TASKS;
 use crate::task::Task;
+use bounded::Bounded;
+
+// The tasks of an empty table.
+pub fn no_tasks() -> Bounded<Task, MAX_TASKS>
+    ensures { list_of result ≡ [] }
+{
+    let mut blocks = Bounded::new(1);
+    let _ = blocks.push(1);
+    // fills the places, and is never read
+    Bounded::new(Task {
+        id: 1,
+        period: 1,
+        deadline: 1,
+        blocks,
+        points: Bounded::new(0),
+    })
+}
 
 // Whether a task has the id.
 pub fn has_id(tasks: &[Task], id: u32) -> bool
-    ensures { result ≡ has_id id (tasks_of tasks.now) }
+    ensures { result ≡ list_any (λ t. t.id == id) tasks.now }
 {
-    for t in tasks {
-        if t.id == id {
-            return true;
-        }
-    }
-    false
+    tasks.iter().any(|t| t.id == id)
 }
 
 // How many tasks stand before a new one with the deadline: those whose own is not later.
 pub fn place_for(tasks: &[Task], deadline: u32) -> usize
-    ensures { result ≡ place_for deadline (tasks_of tasks.now) }
+    ensures { result ≡ prefix_len (λ t. nat_le t.deadline deadline) tasks.now }
 {
-    for (i, t) in tasks.iter().enumerate() {
-        if t.deadline > deadline {
-            return i;
-        }
-    }
-    tasks.len()
+    tasks.iter().take_while(|t| t.deadline <= deadline).count()
 }

@@ -12,14 +12,14 @@ impl Sealed {
     pub fn cores(&self) -> u32
         ensures { result ≡ (sealed self.now).cores }
     {
-        self.cores
+        self.table.cores
     }
 
     // The tasks in order of deadline.
     pub fn tasks(&self) -> &[Task]
         ensures { tasks_of result.now ≡ (sealed self.now).tasks }
     {
-        self.tasks.as_slice()
+        self.table.tasks.as_slice()
     }
 
     // The least common multiple of the periods, 1 of no task.
@@ -34,21 +34,17 @@ impl Sealed {
         }
     }
 
-    // A second table of the same cores and tasks.
+    // A second table of the same cores and tasks. It is no `clone`, since that may fail and this cannot.
     pub fn duplicate(&self) -> Sealed
         ensures { sealed result ≡ sealed self.now }
     {
-        Sealed {
-            cores: self.cores,
-            tasks: self.tasks,
-        }
+        Sealed { table: self.table }
     }
 
     // A draft again, with the same cores and tasks.
     pub fn open(self) -> Draft
         ensures { drafted result ≡ sealed self }
     {
-        let Sealed { cores, tasks } = self;
-        Draft { cores, tasks }
+        Draft { table: self.table }
     }
 }

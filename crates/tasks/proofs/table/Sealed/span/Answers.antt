@@ -17,4 +17,4 @@ unreachable-requires c =
     let table = sealed c.args.self.now in
     let is = stored_periods c.tasks.result.now ∙ ap periods c.tasks.ensures in
     let told = subst (λ ps. SpanWithin ps None) is c.in-None.ensures in
-    omega (arith, none_above (periods table.tasks) (table_positive table c.args.self.now.rules) told, (rules_are table c.args.self.now.rules).short)
+    omega (arith, none_above (periods table.tasks) (table_positive table c.args.self.now.table.rules) told, (rules_are table c.args.self.now.table.rules).short)
