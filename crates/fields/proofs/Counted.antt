@@ -1,8 +1,8 @@
 -- Lists of numbers, each after a space. Assumes nothing.
-use Rattle.std.proofs.Common.{◌≡◌, ℕ, ◌<◌, ◌≤◌, Bool, true, false, cond, ltb, List, [], ◌∷◌, ◌++◌, map, length, take, sym, refl, ap, ◌∙◌, subst, append_assoc, append-nil, arith, length-append}
+use Rattle.std.proofs.Common.{◌≡◌, ℕ, ◌<◌, ◌≤◌, ◌↔◌, List, [], ◌∷◌, ◌++◌, map, length, Ok, Err, Result, IsOk, OnOk, OnErr, sym, refl, ap, ◌∙◌, subst, append_assoc, append-nil, arith, length-append}
 use Rattle.std.proofs.lemmas.List.{length-take, take_all, take-append-le, map_push}
-use Rattle.std.proofs.ByRecursion.{All-push}
-use Rattle.std.proofs.lemmas.Bool.Decides.{nat_tests}
+use Rattle.std.proofs.lemmas.List.Elements.{All-nil, All-push, All-head, All-tail}
+use Rattle.std.proofs.lemmas.Bool.{iff_false}
 use Rattle.bounded.specs.Lists.{list_of}
 use Rattle.bounded.specs.declared.list.Bounded.{Bounded}
 use Rattle.grammar.specs.Forms.{renders, Ends, IsDigit, IsNumber}
@@ -12,15 +12,14 @@ use Rattle.fields.specs.Values.{Keeps}
 use Rattle.fields.specs.Pieces.{TookNumber, Took, HasValues, numbers_bytes}
 
 -- a list that takes another number only while it has less than seventeen keeps the first seventeen
-kept_more : (ys zs xs : List ℕ) (n : ℕ) (b : Bool) → ys ≡ take 17 xs → b ≡ ltb (length ys) 17 → zs ≡ cond b (ys ++ n ∷ []) ys → zs ≡ take 17 (xs ++ n ∷ [])
-kept_more ys zs xs n true is test e =
-    let room : length ys < 17 = grind (arith, nat_tests) in
-    let few : length xs < 17 = omega (arith, ap length is, length-take 17 xs) in
-    let all : ys ≡ xs = is ∙ take_all 17 xs (omega arith) in
-    e ∙ ap (λ l. l ++ n ∷ []) all ∙ sym (take_all 17 (xs ++ n ∷ []) (omega (arith, length-append xs (n ∷ []))))
-kept_more ys zs xs n false is test e =
-    let full : 17 ≤ length ys = grind (arith, nat_tests) in
-    e ∙ is ∙ sym (take-append-le 17 xs (n ∷ []) (omega (arith, ap length is, length-take 17 xs)))
+kept_more : {E : Type 0} (k k' : Bounded ℕ 17) (xs : List ℕ) (n : ℕ) (r : Result (Unit {0}) E) → Keeps k xs → (IsOk r ↔ (length (list_of k) < 17)) → OnOk r (list_of k' ≡ list_of k ++ n ∷ []) → OnErr r (k' ≡ k) → Keeps k' (xs ++ n ∷ [])
+kept_more k k' xs n (Ok u) is room ok err =
+    let few : length xs < 17 = omega (arith, room.0 refl, ap length is, length-take 17 xs) in
+    let all : list_of k ≡ xs = is ∙ take_all 17 xs (omega arith) in
+    ok ∙ ap (λ l. l ++ n ∷ []) all ∙ sym (take_all 17 (xs ++ n ∷ []) (omega (arith, length-append xs (n ∷ []))))
+kept_more k k' xs n (Err e) is room ok err =
+    let full : 17 ≤ length (list_of k) = omega (arith, iff_false room refl) in
+    ap list_of err ∙ is ∙ sym (take-append-le 17 xs (n ∷ []) (omega (arith, ap length is, length-take 17 xs)))
 
 -- two numbers that stand in the same bytes, with all their digits, leave the same bytes
 pub number_forced : {m r : List ℕ} {v : ℕ} (n : TookNumber m v r) (ds t : List ℕ) → IsNumber ds → Ends IsDigit t → m ≡ ds ++ t → r ≡ t
@@ -35,7 +34,7 @@ pub record Sofar (bs left : List ℕ) (k : Bounded ℕ 17) : Type 0 where
   pub forced : (ns : List (List ℕ)) (t : List ℕ) → AreNumbers ns → bs ≡ numbers_bytes ns ++ t → (ks : List (List ℕ)) × AreNumbers ks × (left ≡ numbers_bytes ks ++ t)
 
 pub sofar_none : (bs : List ℕ) (k : Bounded ℕ 17) → list_of k ≡ [] → Sofar bs bs k
-sofar_none bs k h = record { of = []; lawful = tt; is = refl; means = h; forced = λ ns t l e. (ns, l, e) }
+sofar_none bs k h = record { of = []; lawful = All-nil IsNumber; is = refl; means = h; forced = λ ns t l e. (ns, l, e) }
 
 numerals_push : (ns : List (List ℕ)) (d : List ℕ) → renders (numerals (ns ++ d ∷ [])) ≡ renders (numerals ns) ++ 32 ∷ d
 numerals_push [] d = ap (λ l. 32 ∷ l) (append-nil d)
@@ -54,8 +53,8 @@ more_bytes k ks t = simp append_assoc
 
 -- what numbers that go on with a space go on with
 next_number : (left m : List ℕ) (ks : List (List ℕ)) (t : List ℕ) → left ≡ 32 ∷ m → AreNumbers ks → left ≡ numbers_bytes ks ++ t → (k : List ℕ) × (js : List (List ℕ)) × IsNumber k × AreNumbers js × (m ≡ k ++ (numbers_bytes js ++ t))
-next_number left m [] t s l e = let z : ◌≡◌ {A = ℕ} 32 41 = head_same (sym s ∙ e) in absurd (omega arith)
-next_number left m (k ∷ ks) t s l e = (k, ks, l.0, l.1, rest_same (sym s ∙ e ∙ more_bytes k ks t))
+next_number left m [] t s l e = absurd (omega (arith, head_same (sym s ∙ e)))
+next_number left m (k ∷ ks) t s l e = (k, ks, All-head IsNumber k ks l, All-tail IsNumber k ks l, rest_same (sym s ∙ e ∙ more_bytes k ks t))
 
 module _ (bs left : List ℕ) (k : Bounded ℕ 17) (s : Sofar bs left k) where
   -- no lawful numbers and the end of their form stand first
@@ -81,7 +80,7 @@ module _ (bs left : List ℕ) (k : Bounded ℕ 17) (s : Sofar bs left k) where
     where
       cases : (ks : List (List ℕ)) (t : List ℕ) → left ≡ numbers_bytes ks ++ t → r ≡ t
       cases [] t e = rest_same (sym c ∙ e)
-      cases (k ∷ ks) t e = let z : ◌≡◌ {A = ℕ} 41 32 = head_same (sym c ∙ e) in absurd (omega arith)
+      cases (k ∷ ks) t e = absurd (omega (arith, head_same (sym c ∙ e)))
 
   module _ (m : List ℕ) (space : left ≡ 32 ∷ m) where
     pub numbers_none : ((ds t : List ℕ) → IsNumber ds → Ends IsDigit t → m ≡ ds ++ t → ⊥) → NoNumbers
@@ -94,9 +93,9 @@ module _ (bs left : List ℕ) (k : Bounded ℕ 17) (s : Sofar bs left k) where
       pub number_shorter : length r < length left
       number_shorter = omega (arith, ap length space, ap length n.is ∙ length-append n.digits r)
 
-      pub sofar_more : (k' : Bounded ℕ 17) (b : Bool) → b ≡ ltb (length (list_of k)) 17 → list_of k' ≡ cond b (list_of k ++ v ∷ []) (list_of k) → Sofar bs r k'
-      sofar_more k' b test items =
-          let kept : Keeps k' (map value s.of ++ v ∷ []) = kept_more (list_of k) (list_of k') (map value s.of) v b s.means test items in
+      pub sofar_more : {E : Type 0} (k' : Bounded ℕ 17) (res : Result (Unit {0}) E) → (IsOk res ↔ (length (list_of k) < 17)) → OnOk res (list_of k' ≡ list_of k ++ v ∷ []) → OnErr res (k' ≡ k) → Sofar bs r k'
+      sofar_more k' res room ok err =
+          let kept : Keeps k' (map value s.of ++ v ∷ []) = kept_more k k' (map value s.of) v res s.means room ok err in
           record {
             of = s.of ++ n.digits ∷ [];
             lawful = All-push IsNumber s.of n.digits s.lawful n.lawful;

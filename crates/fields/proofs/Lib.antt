@@ -1,6 +1,6 @@
 mod Tokens
-mod Digits
 mod Counted
+mod Digits
 mod Pieces
 mod Lines
 pub mod Shaped

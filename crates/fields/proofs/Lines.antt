@@ -4,7 +4,7 @@ use mathlib.Core.List.{append_cancel_left}
 use Rattle.bounded.specs.declared.list.Bounded.{Bounded}
 use Rattle.grammar.specs.Forms.{Items, none, more, renders, line, Ends, IsLetter, IsNumber}
 use Rattle.grammar.proofs.Runs.{write_form, write_more}
-use Rattle.fields.specs.Wanted.{value, numerals, field, sheet_form, Written, task_form, AreNumbers, IsTask}
+use Rattle.fields.specs.Wanted.{numerals, field, sheet_form, Written, task_form, AreNumbers, IsTask}
 use Rattle.fields.specs.Values.{HasTask}
 use Rattle.fields.specs.Pieces.{Took, HasValue, HasValues, field_bytes, list_bytes}
 use Rattle.fields.proofs.Pieces.{NoField, NoList}
@@ -71,21 +71,6 @@ NoSheet bs = (ds : List ℕ) → IsNumber ds → bs ≡ line (sheet_form ds) →
 pub sheet_word : (bs : List ℕ) → ((t : List ℕ) → Ends IsLetter t → bs ≡ (40 ∷ codes "sheet") ++ t → ⊥) → NoSheet bs
 sheet_word bs never ds l e = never _ (λ h. omega (arith, h.0)) (e ∙ sheet_line ds)
 
-module _ (bs r0 : List ℕ) (s : bs ≡ (40 ∷ codes "sheet") ++ r0) where
-  in_sheet : (ds : List ℕ) → bs ≡ line (sheet_form ds) → r0 ≡ field_bytes (codes "cores") ds ++ end
-  in_sheet ds e = append_cancel_left ((40 ∷ codes "sheet")) r0 (field_bytes (codes "cores") ds ++ end) (sym s ∙ e ∙ sheet_line ds)
-
-  pub sheet_cores : NoField (codes "cores") r0 → NoSheet bs
-  sheet_cores never ds l e = never ds end l (in_sheet ds e)
-
-  module _ (v : ℕ) (r1 : List ℕ) (k : OneField (codes "cores") r0 v r1) where
-    pub sheet_end : (r1 ≡ end → ⊥) → NoSheet bs
-    sheet_end never ds l e = never (k.forced ds end l (in_sheet ds e))
-
-    pub sheet_took : r1 ≡ end → (ds : List ℕ) × IsNumber ds × (v ≡ value ds) × (bs ≡ line (sheet_form ds))
-    sheet_took e =
-        (k.of, k.lawful, k.means, s ∙ ap (λ l. (40 ∷ codes "sheet") ++ l) (k.is ∙ ap (λ l. field_bytes (codes "cores") k.of ++ l) e) ∙ sym (sheet_line k.of))
-
 -- the exits of task_of
 
 abbrev NoTask : List ℕ → Type 0
@@ -97,9 +82,6 @@ task_word bs never w l e = never _ (λ h. omega (arith, h.0)) (e ∙ task-line w
 module _ (bs r0 : List ℕ) (s : bs ≡ (40 ∷ codes "task") ++ r0) where
   at_id : (w : Written) → bs ≡ line (task_form w) → r0 ≡ from_id w
   at_id w e = append_cancel_left ((40 ∷ codes "task")) r0 (from_id w) (sym s ∙ e ∙ task-line w)
-
-  pub task_id : NoField (codes "id") r0 → NoTask bs
-  task_id never w l e = never w.id (from_period w) l.id (at_id w e)
 
   module _ (v1 : ℕ) (r1 : List ℕ) (k1 : OneField (codes "id") r0 v1 r1) where
     at_period : (w : Written) → IsTask w → bs ≡ line (task_form w) → r1 ≡ from_period w

@@ -1,7 +1,6 @@
 -- Fields and the end of a line, by the pieces that they are read in. Assumes nothing.
-use Rattle.std.proofs.Common.{◌≡◌, ℕ, true, false, eqb, List, [], ◌∷◌, ◌++◌, length, Some, None, Option, sym, ap, ◌∙◌, append_assoc, arith, true-eqb, false-eqb}
+use Rattle.std.proofs.Common.{◌≡◌, ℕ, List, ◌∷◌, ◌++◌, Some, None, Option, sym, ap, ◌∙◌, append_assoc, arith}
 use mathlib.Core.List.{append_cancel_left}
-use Rattle.std.proofs.lemmas.List.{nil_from_length}
 use Rattle.bounded.specs.declared.list.Bounded.{Bounded}
 use Rattle.grammar.specs.Forms.{Ends, IsLetter, IsDigit, IsNumber}
 use Rattle.grammar.proofs.Same.{rest_same}
@@ -43,9 +42,6 @@ module _ (name bs m : List ℕ) (named : bs ≡ (32 ∷ 40 ∷ name) ++ m) where
 abbrev pub NoField : List ℕ → List ℕ → Type 0
 NoField name bs = (ds t : List ℕ) → IsNumber ds → bs ≡ field_bytes name ds ++ t → ⊥
 
-pub field_name : (name bs : List ℕ) → NoName (32 ∷ 40 ∷ name) bs → NoField name bs
-field_name name bs never ds t l e = never (32 ∷ (ds ++ 41 ∷ t)) (λ h. omega (arith, h.0)) (e ∙ simp append_assoc)
-
 module _ (name bs m : List ℕ) (named : bs ≡ (32 ∷ 40 ∷ name) ++ m) where
   inside : (ds t : List ℕ) → bs ≡ field_bytes name ds ++ t → m ≡ 32 ∷ (ds ++ 41 ∷ t)
   inside ds t e = append_cancel_left (32 ∷ 40 ∷ name) m (32 ∷ (ds ++ 41 ∷ t)) (sym named ∙ e ∙ simp append_assoc)
@@ -76,16 +72,3 @@ module _ (name bs m : List ℕ) (named : bs ≡ (32 ∷ 40 ∷ name) ++ m) where
             means = n.means;
             forced = λ ds t l e. rest_same (sym c ∙ at_end ds t l e);
           }
-
--- the end of a line
-
-module _ (bs m : List ℕ) (close : bs ≡ 41 ∷ m) where
-  pub end_other : ((t : List ℕ) → m ≡ 10 ∷ t → ⊥) → bs ≡ 41 ∷ 10 ∷ [] → ⊥
-  end_other never e = never [] (rest_same (sym close ∙ e))
-
-  module _ (r : List ℕ) (feed : m ≡ 10 ∷ r) where
-    pub end_more : false ≡ eqb (length r) 0 → bs ≡ 41 ∷ 10 ∷ [] → ⊥
-    end_more test e = omega (arith, ap length (rest_same (sym feed ∙ rest_same (sym close ∙ e))), false-eqb (length r) 0 test)
-
-    pub end_took : true ≡ eqb (length r) 0 → bs ≡ 41 ∷ 10 ∷ []
-    end_took test = close ∙ ap (λ l. 41 ∷ l) (feed ∙ ap (λ l. 10 ∷ l) (nil_from_length r (true-eqb (length r) 0 test)))

@@ -1,7 +1,8 @@
 -- What an answer says of a lawful form whose line the bytes are. Assumes nothing.
 use Rattle.std.proofs.Common.{◌≡◌, ℕ, ◌<◌, ◌≤◌, Bool, true, ◌&&◌, leb, List, [], ◌∷◌, length, Some, None, codes, sym, refl, ap, ◌∙◌, subst, append-nil, arith}
 use Rattle.std.proofs.lemmas.Bool.Decides.{nat_tests}
-use Rattle.std.specs.List.{AllByRecursion}
+use Rattle.std.specs.List.{All}
+use Rattle.std.proofs.lemmas.List.Elements.{All-nil, All-cons, All-head, All-tail}
 use Rattle.grammar.specs.Forms.{Form, line, IsLetter, IsWord, IsNumber, Lawful, Lawfuls}
 use Rattle.grammar.proofs.Same.{lawful_spelt, line_same}
 use Rattle.fields.specs.Wanted.{value, numerals, sheet_form, Written, task_form, AreNumbers, IsTask}
@@ -14,26 +15,23 @@ abbrev lettersb : List ℕ → Bool
 lettersb [] = true
 lettersb (c ∷ cs) = (leb 97 c && leb c 122) && lettersb cs
 
-all_letters : (w : List ℕ) → lettersb w ≡ true → AllByRecursion IsLetter w
-all_letters [] e = tt
-all_letters (c ∷ cs) e = ((grind (arith, nat_tests), grind (arith, nat_tests)), all_letters cs (grind (arith, nat_tests)))
+all_letters : (w : List ℕ) → lettersb w ≡ true → All IsLetter w
+all_letters [] e = All-nil IsLetter
+all_letters (c ∷ cs) e = All-cons IsLetter c cs (grind (arith, nat_tests), grind (arith, nat_tests)) (all_letters cs (grind (arith, nat_tests)))
 
 is_word : (w : List ℕ) → 0 < length w → length w ≤ 8 → lettersb w ≡ true → IsWord w
 is_word w some few e = (some, few, all_letters w e)
 
 numerals_lawful : (ns : List (List ℕ)) (n : ℕ) → AreNumbers ns → Lawfuls (numerals ns) n
 numerals_lawful [] n a = tt
-numerals_lawful (d ∷ ns) n a = (a.0, numerals_lawful ns n a.1)
+numerals_lawful (d ∷ ns) n a = (All-head IsNumber d ns a, numerals_lawful ns n (All-tail IsNumber d ns a))
 
 lawful_numerals : (ns : List (List ℕ)) (n : ℕ) → Lawfuls (numerals ns) n → AreNumbers ns
-lawful_numerals [] n l = tt
-lawful_numerals (d ∷ ns) n l = (l.0, lawful_numerals ns n l.1)
+lawful_numerals [] n l = All-nil IsNumber
+lawful_numerals (d ∷ ns) n l = All-cons IsNumber d ns l.0 (lawful_numerals ns n l.1)
 
 pub sheet_lawful : (ds : List ℕ) → IsNumber ds → Lawful (sheet_form ds) 4
 sheet_lawful ds n = (is_word (codes "sheet") (omega arith) (omega arith) refl, ((is_word (codes "cores") (omega arith) (omega arith) refl, (n, tt)), tt))
-
-pub lawful_sheet : (ds : List ℕ) → Lawful (sheet_form ds) 4 → IsNumber ds
-lawful_sheet ds l = l.1.0.1.0
 
 pub task_lawful : (w : Written) → IsTask w → Lawful (task_form w) 4
 task_lawful w l = (
@@ -71,8 +69,8 @@ lawful_task w l =
 
 numerals_same : (ns ms : List (List ℕ)) → numerals ns ≡ numerals ms → ns ≡ ms
 numerals_same [] [] e = refl
-numerals_same [] (m ∷ ms) e = let z : ◌≡◌ {A = ℕ} 0 1 = cc in absurd (omega arith)
-numerals_same (n ∷ ns) [] e = let z : ◌≡◌ {A = ℕ} 0 1 = cc in absurd (omega arith)
+numerals_same [] (m ∷ ms) e = cc
+numerals_same (n ∷ ns) [] e = cc
 numerals_same (n ∷ ns) (m ∷ ms) e = let rest = numerals_same ns ms (cc) in cc
 
 pub sheet_same : (ds es : List ℕ) → sheet_form ds ≡ sheet_form es → ds ≡ es
@@ -93,9 +91,6 @@ same_line f g p q e = (line_same f g (lawful_spelt f 4 p) (lawful_spelt g 4 q) [
 module _ (f : Form) (bs : List ℕ) (lawful : Lawful f 4) (is : bs ≡ line f) where
   pub cores_some : (v : ℕ) → CoresOf bs (Some v) → (ds : List ℕ) × IsNumber ds × (v ≡ value ds) × (f ≡ sheet_form ds)
   cores_some v k = (k.0, k.1, k.2, same_line f (sheet_form k.0) lawful (sheet_lawful k.0 k.1) (sym is ∙ k.3))
-
-  pub cores-none : CoresOf bs None → (ds : List ℕ) → f ≡ sheet_form ds → ⊥
-  cores-none never ds e = never ds (lawful_sheet ds (subst (λ g. Lawful g 4) e lawful)) (is ∙ ap line e)
 
   pub task_some : (v : TaskLine) → TaskOf bs (Some v) → (w : Written) × IsTask w × HasTask w v × (f ≡ task_form w)
   task_some v k = (k.0, k.1, k.2, same_line f (task_form k.0) lawful (task_lawful k.0 k.1) (sym is ∙ k.3))

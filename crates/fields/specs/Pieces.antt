@@ -4,6 +4,7 @@ use Rattle.bounded.specs.declared.list.Bounded.{Bounded}
 use Rattle.grammar.specs.Forms.{renders, Ends, IsLetter, IsDigit, IsNumber}
 use Rattle.reader.specs.Tokens.{spells, Maximal, NoToken}
 use Rattle.reader.specs.declared.reader.Token.{Token}
+use Rattle.reader.specs.declared.reader.Token.TheVariants.{Word, Number}
 use Rattle.fields.specs.Wanted.{value, numerals}
 use Rattle.fields.specs.Values.{Keeps}
 
@@ -16,6 +17,12 @@ pub record TookToken (bs : List ℕ) (k : Token) (r : List ℕ) : Type 0 where
 abbrev pub TakesToken : List ℕ → Option Token → List ℕ → Type 0
 TakesToken bs None r = NoToken bs
 TakesToken bs (Some k) r = TookToken bs k r
+
+-- The token is one that is always the same byte.
+abbrev pub IsMark : Token → Type 0
+IsMark (Word w) = ⊥
+IsMark (Number n) = ⊥
+IsMark _ = Unit {0}
 
 -- The text stood first and was passed, or it did not.
 abbrev pub Passes : List ℕ → List ℕ → Option (Unit {0}) → List ℕ → Type 0

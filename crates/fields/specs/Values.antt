@@ -11,6 +11,10 @@ use Rattle.fields.specs.declared.values.TaskLine.{TaskLine}
 abbrev pub Keeps : Bounded ℕ 17 → List ℕ → Type 0
 Keeps k xs = list_of k ≡ take 17 xs
 
+-- The task of a line, of each list what the line keeps.
+abbrev pub kept : TaskLine → Task
+kept v = record { id = v.id; period = v.period; deadline = v.deadline; blocks = list_of v.blocks; points = list_of v.points }
+
 -- v has the values of a task line, of which it keeps the lists.
 pub record Holds (v : TaskLine) (t : Task) : Type 0 where
   pub id : v.id ≡ t.id

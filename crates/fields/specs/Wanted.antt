@@ -1,6 +1,6 @@
 -- The forms of the wanted lines, by the digits of their numbers, and the values of those.
 use Rattle.std.specs.Prelude.{ℕ, ◌+◌, ◌-◌, ◌*◌, List, [], ◌∷◌, map, codes}
-use Rattle.std.specs.List.{AllByRecursion}
+use Rattle.std.specs.List.{All}
 use Rattle.tasks.specs.Tasks.{Task}
 use Rattle.grammar.specs.Forms.{Form, Item, Items, form, number, nested, none, more, IsNumber}
 
@@ -46,7 +46,7 @@ task_form w =
 
 -- Each of them is a lawful number.
 abbrev pub AreNumbers : List (List ℕ) → Type 0
-AreNumbers ns = AllByRecursion IsNumber ns
+AreNumbers ns = All IsNumber ns
 
 -- Every number of the task line is lawful.
 pub record IsTask (w : Written) : Type 0 where

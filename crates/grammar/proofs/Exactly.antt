@@ -5,7 +5,7 @@ use Rattle.grammar.specs.Forms.{Form, IsDigit, line, Lawful}
 use Rattle.grammar.specs.Faults.{Begins, First, Stops, Halts, Eighth, Fifth, Faulty, Leads}
 use Rattle.grammar.specs.States.{goes, from, run, fault_of}
 use Rattle.grammar.specs.Faults.{Fault, forbidden, too_long, too_deep}
-use Rattle.grammar.specs.States.{State, Start, Word, Item, Zero, Digits, Closed, Done}
+use Rattle.grammar.specs.States.{State, Start, Done}
 use Rattle.grammar.proofs.Steps.{none_some}
 use Rattle.grammar.proofs.Runs.{from-append, run-line}
 use Rattle.grammar.proofs.Reach.{reached}
@@ -15,13 +15,8 @@ use Rattle.grammar.proofs.Stuck.{refuse, refuse_end}
 -- complete
 
 done_or_not : (s : State) → (s ≡ Done) ⊎ (s ≡ Done → ⊥)
-done_or_not Start = inr (λ e. let z : ◌≡◌ {A = ℕ} 0 1 = cc in omega arith)
-done_or_not (Word d n) = inr (λ e. let z : ◌≡◌ {A = ℕ} 0 1 = cc in omega arith)
-done_or_not (Item d) = inr (λ e. let z : ◌≡◌ {A = ℕ} 0 1 = cc in omega arith)
-done_or_not (Zero d) = inr (λ e. let z : ◌≡◌ {A = ℕ} 0 1 = cc in omega arith)
-done_or_not (Digits d n) = inr (λ e. let z : ◌≡◌ {A = ℕ} 0 1 = cc in omega arith)
-done_or_not (Closed d) = inr (λ e. let z : ◌≡◌ {A = ℕ} 0 1 = cc in omega arith)
 done_or_not Done = inl refl
+done_or_not s = inr (λ e. cc)
 
 goes_on : (q : List ℕ) (s : State) (p : List ℕ) (start : ℕ) → run Start p ≡ Some s → (s ≡ Done → ⊥) → Leads (p ++ q) ⊎ ((y : Fault) × Faulty start (p ++ q) y)
 goes_on [] s p start e n = inr (forbidden (start + length p), subst (λ l. Faulty start l (forbidden (start + length p))) (sym (append-nil p)) (refuse_end s p start e n))
@@ -43,7 +38,7 @@ goes_on (c ∷ q) s p start e n = cases (goes s (kind c)) refl (λ t h g. goes_o
 
 -- some line or some refusal
 pub some_outcome : (start : ℕ) (bs : List ℕ) → Leads bs ⊎ ((y : Fault) × Faulty start bs y)
-some_outcome start bs = goes_on bs Start [] start refl (λ e. let z : ◌≡◌ {A = ℕ} 0 1 = cc in omega arith)
+some_outcome start bs = goes_on bs Start [] start refl (λ e. cc)
 
 -- exclusive
 

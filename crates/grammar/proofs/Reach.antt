@@ -1,7 +1,8 @@
 -- What the bytes that a run went over are: the front of a line, with its open forms. Assumes nothing.
 use Rattle.std.proofs.Common.{◌≡◌, ℕ, zero, suc, ◌+◌, ◌-◌, ◌<◌, ◌≤◌, Bool, true, false, ltb, ◌⊎◌, List, [], ◌∷◌, ◌++◌, length, Some, None, Option, sym, refl, ap, ◌∙◌, subst, inl, inr, append_assoc, append-nil, arith, length-append}
 use Rattle.std.proofs.lemmas.Bool.Decides.{nat_tests}
-use Rattle.std.specs.List.{AllByRecursion}
+use Rattle.std.specs.List.{All}
+use Rattle.std.proofs.lemmas.List.Elements.{All-nil, All-cons, All-push}
 use Rattle.grammar.specs.Kinds.{kind}
 use Rattle.grammar.specs.Forms.{Form, form, Items, none, more, number, nested, IsLetter, IsDigit, IsWord, IsNumber, render, render_item, renders, line, Lawful, LawfulItem, Lawfuls}
 use Rattle.grammar.specs.Forms as forms
@@ -88,7 +89,7 @@ pub record Spelling (d n : ℕ) (p : List ℕ) : Type 0 where
   pub word : List ℕ
   pub room : Room outer (suc allow)
   pub deep : depth outer + 1 ≡ d
-  pub letters : AllByRecursion IsLetter word
+  pub letters : All IsLetter word
   pub long : length word ≡ n
   pub fits : n ≤ 8
   pub is : p ≡ written outer ++ 40 ∷ word
@@ -101,7 +102,7 @@ pub record Counting (d n : ℕ) (p : List ℕ) : Type 0 where
   pub others : List ℕ
   pub low : 49 ≤ first
   pub high : first ≤ 57
-  pub figures : AllByRecursion IsDigit others
+  pub figures : All IsDigit others
   pub long : length others + 1 ≡ n
   pub fits : n ≤ 7
   pub is : p ≡ before ++ 32 ∷ (first ∷ others)
@@ -148,7 +149,7 @@ with_item d p before i g l e =
     }
 
 is_zero_number : IsNumber (48 ∷ [])
-is_zero_number = ((omega arith, omega arith), tt, omega arith, λ e. refl)
+is_zero_number = ((omega arith, omega arith), All-nil IsDigit, omega arith, λ e. refl)
 
 counted-number : {d n : ℕ} {p : List ℕ} (g : Counting d n p) → IsNumber (g.first ∷ g.others)
 counted-number g = ((omega (arith, g.low), g.high), g.figures, omega (arith, g.long, g.fits), λ e. absurd (omega (arith, g.low, e)))
@@ -191,8 +192,8 @@ within_begins d p g =
 shorter : (p q : List ℕ) → Begins (p ++ q) → Begins p
 shorter p q b = record { tree = b.tree; lawful = b.lawful; left = q ++ b.left; is = b.is ∙ append_assoc p q b.left }
 
-letter_a : AllByRecursion IsLetter (97 ∷ [])
-letter_a = ((omega arith, omega arith), tt)
+letter_a : All IsLetter (97 ∷ [])
+letter_a = All-cons IsLetter 97 [] (omega arith, omega arith) (All-nil IsLetter)
 
 spelling_more : (d n c : ℕ) (p : List ℕ) → n < 8 → IsLetter c → Spelling d n p → Spelling d (n + 1) (p ++ c ∷ [])
 spelling_more d n c p h k g =
@@ -202,15 +203,11 @@ spelling_more d n c p h k g =
       word = g.word ++ c ∷ [];
       room = g.room;
       deep = g.deep;
-      letters = all_one g.word g.letters;
+      letters = All-push IsLetter g.word c g.letters k;
       long = omega (arith, length-append g.word (c ∷ []), g.long);
       fits = omega arith;
       is = ap (λ l. l ++ c ∷ []) g.is ∙ append_assoc (written g.outer) (40 ∷ g.word) (c ∷ []);
     }
-  where
-    all_one : (w : List ℕ) → AllByRecursion IsLetter w → AllByRecursion IsLetter (w ++ c ∷ [])
-    all_one [] a = (k, tt)
-    all_one (x ∷ w) a = (a.0, all_one w a.1)
 
 counting_more : (d n c : ℕ) (p : List ℕ) → n < 7 → IsDigit c → Counting d n p → Counting d (n + 1) (p ++ c ∷ [])
 counting_more d n c p h k g =
@@ -221,15 +218,11 @@ counting_more d n c p h k g =
       others = g.others ++ c ∷ [];
       low = g.low;
       high = g.high;
-      figures = all_one g.others g.figures;
+      figures = All-push IsDigit g.others c g.figures k;
       long = omega (arith, length-append g.others (c ∷ []), g.long);
       fits = omega arith;
       is = ap (λ l. l ++ c ∷ []) g.is ∙ append_assoc g.before (32 ∷ (g.first ∷ g.others)) (c ∷ []);
     }
-  where
-    all_one : (w : List ℕ) → AllByRecursion IsDigit w → AllByRecursion IsDigit (w ++ c ∷ [])
-    all_one [] a = (k, tt)
-    all_one (x ∷ w) a = (a.0, all_one w a.1)
 
 pub reach_begins : (s : State) (p : List ℕ) → Reach s p → Begins p
 reach_begins Start p r = record { tree = form (97 ∷ []) none; lawful = ((omega arith, omega arith, letter_a), tt); left = line (form (97 ∷ []) none); is = ap (λ l. l ++ line (form (97 ∷ []) none)) (sym r) }
@@ -272,7 +265,6 @@ close_within d p g = closes g.outer g.allow g.room g.deep g.is g.lawful
         (ap (λ l. l ++ 41 ∷ []) is ∙ regroup_in (written k) v (renders js) g.word (renders g.items)))
 
 rested_step : (d : ℕ) (p : List ℕ) (c : ℕ) (s : State) (k : Kind) → Rested d p → kind c ≡ k → after d k ≡ Some s → Reach s (p ++ c ∷ [])
-rested_step d p c s kinds.Open r h e = absurd (none_some e)
 rested_step d p c s kinds.Close r h e = cases r (not_zero d (Some (Closed (d - 1))) e)
   where
     cases : Rested d p → (0 < d) × (Some (Closed (d - 1)) ≡ Some s) → Reach s (p ++ c ∷ [])
@@ -288,32 +280,20 @@ rested_step d p c s kinds.LineFeed r h e = cases r (only_zero d e)
     cases : Rested d p → (d ≡ 0) × (Done ≡ s) → Reach s (p ++ c ∷ [])
     cases (inr g) q = absurd (omega (arith, g.deep, q.0))
     cases (inl f) q = subst (λ t. Reach t (p ++ c ∷ [])) q.1 (record { tree = f.1.tree; lawful = f.1.lawful; is = ap (λ l. l ++ 10 ∷ []) (sym f.1.is) ∙ ap (λ b. p ++ b ∷ []) (sym (is_feed c h)) })
-rested_step d p c s kinds.Letter r h e = absurd (none_some e)
-rested_step d p c s kinds.Zero r h e = absurd (none_some e)
-rested_step d p c s kinds.Digit r h e = absurd (none_some e)
-rested_step d p c s kinds.Other r h e = absurd (none_some e)
+rested_step d p c s k r h e = cc
 
 starts-step : (p : List ℕ) (c : ℕ) (s : State) (k : Kind) → p ≡ [] → kind c ≡ k → goes Start k ≡ Some s → Reach s (p ++ c ∷ [])
 starts-step p c s kinds.Open r h e =
     subst (λ t. Reach t (p ++ c ∷ [])) (some_is e)
-    (record { outer = top; allow = 3; word = []; room = refl; deep = refl; letters = tt; long = refl; fits = omega arith; is = ap (λ l. l ++ c ∷ []) r ∙ ap (λ b. b ∷ []) (is_open c h) })
-starts-step p c s kinds.Close r h e = absurd (none_some e)
-starts-step p c s kinds.Space r h e = absurd (none_some e)
-starts-step p c s kinds.LineFeed r h e = absurd (none_some e)
-starts-step p c s kinds.Letter r h e = absurd (none_some e)
-starts-step p c s kinds.Zero r h e = absurd (none_some e)
-starts-step p c s kinds.Digit r h e = absurd (none_some e)
-starts-step p c s kinds.Other r h e = absurd (none_some e)
+    (record { outer = top; allow = 3; word = []; room = refl; deep = refl; letters = All-nil IsLetter; long = refl; fits = omega arith; is = ap (λ l. l ++ c ∷ []) r ∙ ap (λ b. b ∷ []) (is_open c h) })
+starts-step p c s k r h e = cc
 
 word_step : (d n : ℕ) (p : List ℕ) (c : ℕ) (s : State) (k : Kind) → Spelling d n p → kind c ≡ k → goes (Word d n) k ≡ Some s → Reach s (p ++ c ∷ [])
-word_step d n p c s kinds.Open r h e = absurd (none_some e)
 word_step d n p c s kinds.Close r h e = let q = not_zero n (after d kinds.Close) e in rested_step d p c s kinds.Close (inr (within_word d n p q.0 r)) h q.1
 word_step d n p c s kinds.Space r h e = let q = not_zero n (after d kinds.Space) e in rested_step d p c s kinds.Space (inr (within_word d n p q.0 r)) h q.1
 word_step d n p c s kinds.LineFeed r h e = let q = not_zero n (after d kinds.LineFeed) e in rested_step d p c s kinds.LineFeed (inr (within_word d n p q.0 r)) h q.1
 word_step d n p c s kinds.Letter r h e = let q = taken n 8 e in subst (λ t. Reach t (p ++ c ∷ [])) q.1 (spelling_more d n c p q.0 (is_letter c h) r)
-word_step d n p c s kinds.Zero r h e = absurd (none_some e)
-word_step d n p c s kinds.Digit r h e = absurd (none_some e)
-word_step d n p c s kinds.Other r h e = absurd (none_some e)
+word_step d n p c s k r h e = cc
 
 deeper : (d : ℕ) (p : List ℕ) → d < 4 → Behind d p (32 ∷ []) → Spelling (d + 1) 0 (p ++ 40 ∷ [])
 deeper d p h g = cases g.within.allow g.within.room g.within.lawful
@@ -330,7 +310,7 @@ deeper d p h g = cases g.within.allow g.within.room g.within.lawful
           word = [];
           room = (room, g.within.letters, l);
           deep = omega (arith, g.within.deep);
-          letters = tt;
+          letters = All-nil IsLetter;
           long = refl;
           fits = omega arith;
           is = ap (λ l. l ++ 40 ∷ []) (g.is ∙ ap (λ l. l ++ 32 ∷ []) g.within.is) ∙ regroup_open (written g.within.outer) g.within.word (renders g.within.items);
@@ -340,25 +320,16 @@ item_step : (d : ℕ) (p : List ℕ) (c : ℕ) (s : State) (k : Kind) → Behind
 item_step d p c s kinds.Open r h e =
     let q = taken d 4 e in
     subst (λ t. Reach t (p ++ c ∷ [])) q.1 (subst (λ b. Spelling (d + 1) 0 (p ++ b ∷ [])) (sym (is_open c h)) (deeper d p q.0 r))
-item_step d p c s kinds.Close r h e = absurd (none_some e)
-item_step d p c s kinds.Space r h e = absurd (none_some e)
-item_step d p c s kinds.LineFeed r h e = absurd (none_some e)
-item_step d p c s kinds.Letter r h e = absurd (none_some e)
 item_step d p c s kinds.Zero r h e =
     subst (λ t. Reach t (p ++ c ∷ [])) (some_is e)
     (record { before = r.before; within = r.within; is = ap (λ b. p ++ b ∷ []) (is_zero c h) ∙ ap (λ l. l ++ 48 ∷ []) r.is ∙ append_assoc r.before (32 ∷ []) (48 ∷ []) })
 item_step d p c s kinds.Digit r h e =
     let k = is_digit c h in
     subst (λ t. Reach t (p ++ c ∷ [])) (some_is e)
-    (record { before = r.before; within = r.within; first = c; others = []; low = k.0; high = k.1; figures = tt; long = refl; fits = omega arith; is = ap (λ l. l ++ c ∷ []) r.is ∙ append_assoc r.before (32 ∷ []) (c ∷ []) })
-item_step d p c s kinds.Other r h e = absurd (none_some e)
+    (record { before = r.before; within = r.within; first = c; others = []; low = k.0; high = k.1; figures = All-nil IsDigit; long = refl; fits = omega arith; is = ap (λ l. l ++ c ∷ []) r.is ∙ append_assoc r.before (32 ∷ []) (c ∷ []) })
+item_step d p c s k r h e = cc
 
 digits_step : (d n : ℕ) (p : List ℕ) (c : ℕ) (s : State) (k : Kind) → Counting d n p → kind c ≡ k → goes (Digits d n) k ≡ Some s → Reach s (p ++ c ∷ [])
-digits_step d n p c s kinds.Open r h e = absurd (none_some e)
-digits_step d n p c s kinds.Close r h e = rested_step d p c s kinds.Close (inr (within_digits d n p r)) h e
-digits_step d n p c s kinds.Space r h e = rested_step d p c s kinds.Space (inr (within_digits d n p r)) h e
-digits_step d n p c s kinds.LineFeed r h e = rested_step d p c s kinds.LineFeed (inr (within_digits d n p r)) h e
-digits_step d n p c s kinds.Letter r h e = absurd (none_some e)
 digits_step d n p c s kinds.Zero r h e =
     let q = taken n 7 e in
     let k = is_zero c h in
@@ -367,7 +338,7 @@ digits_step d n p c s kinds.Digit r h e =
     let q = taken n 7 e in
     let k = is_digit c h in
     subst (λ t. Reach t (p ++ c ∷ [])) q.1 (counting_more d n c p q.0 (omega (arith, k.0), k.1) r)
-digits_step d n p c s kinds.Other r h e = absurd (none_some e)
+digits_step d n p c s k r h e = rested_step d p c s k (inr (within_digits d n p r)) h e
 
 step_reach : (s : State) (p : List ℕ) (c : ℕ) (t : State) → Reach s p → goes s (kind c) ≡ Some t → Reach t (p ++ c ∷ [])
 step_reach Start p c t r e = starts-step p c t (kind c) r refl e

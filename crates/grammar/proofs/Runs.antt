@@ -1,15 +1,16 @@
 -- The run over a lawful line ends. Assumes nothing.
-use Rattle.std.proofs.Common.{◌≡◌, ℕ, zero, suc, ◌+◌, ◌-◌, ◌<◌, ◌≤◌, cond, eqb, ltb, ◌⊎◌, List, [], ◌∷◌, ◌++◌, length, Some, None, Option, sym, refl, ap, ◌∙◌, inl, inr, append_assoc, arith}
+use Rattle.std.proofs.Common.{◌≡◌, ℕ, zero, suc, ◌+◌, ◌-◌, ◌<◌, ◌≤◌, ltb, ◌⊎◌, List, [], ◌∷◌, ◌++◌, length, Some, None, Option, sym, refl, ap, ◌∙◌, inl, inr, append_assoc, arith}
 use Rattle.std.proofs.lemmas.Bool.Decides.{nat_tests}
-use Rattle.std.proofs.lemmas.Bool.{cond-false, cond-true, lt-ltb}
-use Rattle.std.specs.List.{AllByRecursion}
+use Rattle.std.proofs.lemmas.Bool.{cond-true, lt-ltb}
+use Rattle.std.specs.List.{All}
+use Rattle.std.proofs.lemmas.List.Elements.{All-head, All-tail}
 use Rattle.grammar.specs.Kinds.{kind}
 use Rattle.grammar.specs.Forms.{Form, form, Items, none, more, number, nested, IsLetter, IsDigit, IsNumber, render, render_item, renders, line, Lawful, LawfulItem, Lawfuls}
 use Rattle.grammar.specs.Forms as forms
 use Rattle.grammar.specs.States.{goes, after, from, run}
 use Rattle.grammar.specs.declared.kind.Kind.TheVariants as kinds
 use Rattle.grammar.specs.States.{State, Start, Word, Item, Zero, Digits, Closed, Done}
-use Rattle.grammar.proofs.Steps.{letter_kind, figure_kind, none_some, zero_no}
+use Rattle.grammar.proofs.Steps.{letter_kind, figure_kind, none_some}
 
 pub from-append : (o : Option State) (p q : List ℕ) → from o (p ++ q) ≡ from (from o p) q
 from-append None p q = refl
@@ -32,34 +33,26 @@ abbrev pub Settled : State → ℕ → Type 0
 Settled s d = (goes s kinds.Space ≡ Some (Item d)) × (goes s kinds.Close ≡ Some (Closed (d - 1)))
 
 pub after_settled : (d : ℕ) → 0 < d → (after d kinds.Space ≡ Some (Item d)) × (after d kinds.Close ≡ Some (Closed (d - 1)))
-after_settled d h = (cond-false (eqb d 0) None (Some (Item d)) (zero_no d h), cond-false (eqb d 0) None (Some (Closed (d - 1))) (zero_no d h))
+after_settled d h = (grind (arith, nat_tests), grind (arith, nat_tests))
 
 pub word_settled : (d n : ℕ) → 0 < d → 0 < n → Settled (Word d n) d
-word_settled d n h k =
-    (cond-false (eqb n 0) None (after d kinds.Space) (zero_no n k) ∙ (after_settled d h).0, cond-false (eqb n 0) None (after d kinds.Close) (zero_no n k) ∙ (after_settled d h).1)
+word_settled d n h k = (grind (arith, nat_tests), grind (arith, nat_tests))
 
-pub run_word : (w : List ℕ) (d m : ℕ) (t : List ℕ) → AllByRecursion IsLetter w → m + length w ≤ 8 → run (Word d m) (w ++ t) ≡ run (Word d (m + length w)) t
+pub run_word : (w : List ℕ) (d m : ℕ) (t : List ℕ) → All IsLetter w → m + length w ≤ 8 → run (Word d m) (w ++ t) ≡ run (Word d (m + length w)) t
 run_word [] d m t a h = ap (λ n. run (Word d n) t) (let z : m ≡ m + 0 = omega arith in z)
 run_word (c ∷ w) d m t a h =
-    let one : goes (Word d m) (kind c) ≡ Some (Word d (m + 1)) = ap (goes (Word d m)) (letter_kind c a.0) ∙ cond-true (ltb m 8) (Some (Word d (m + 1))) None (lt-ltb m 8 (omega arith)) in
+    let one : goes (Word d m) (kind c) ≡ Some (Word d (m + 1)) = ap (goes (Word d m)) (letter_kind c (All-head IsLetter c w a)) ∙ cond-true (ltb m 8) (Some (Word d (m + 1))) None (lt-ltb m 8 (omega arith)) in
     let long : m + 1 + length w ≡ m + length (c ∷ w) = omega arith in
-    run_step (Word d m) (Word d (m + 1)) c (w ++ t) one ∙ run_word w d (m + 1) t a.1 (omega arith) ∙ ap (λ n. run (Word d n) t) long
+    run_step (Word d m) (Word d (m + 1)) c (w ++ t) one ∙ run_word w d (m + 1) t (All-tail IsLetter c w a) (omega arith) ∙ ap (λ n. run (Word d n) t) long
 
 count-step : (d m c : ℕ) → IsDigit c → m < 7 → goes (Digits d m) (kind c) ≡ Some (Digits d (m + 1))
-count-step d m c f h = cases (figure_kind c f)
-  where
-    yes : cond (ltb m 7) (Some (Digits d (m + 1))) None ≡ Some (Digits d (m + 1))
-    yes = cond-true (ltb m 7) (Some (Digits d (m + 1))) None (lt-ltb m 7 h)
+count-step d m c f h = let k = figure_kind c f in grind (arith, nat_tests)
 
-    cases : (kind c ≡ kinds.Zero) ⊎ (kind c ≡ kinds.Digit) → goes (Digits d m) (kind c) ≡ Some (Digits d (m + 1))
-    cases (inl e) = ap (goes (Digits d m)) e ∙ yes
-    cases (inr e) = ap (goes (Digits d m)) e ∙ yes
-
-pub run_digits : (cs : List ℕ) (d m : ℕ) (t : List ℕ) → AllByRecursion IsDigit cs → m + length cs ≤ 7 → run (Digits d m) (cs ++ t) ≡ run (Digits d (m + length cs)) t
+pub run_digits : (cs : List ℕ) (d m : ℕ) (t : List ℕ) → All IsDigit cs → m + length cs ≤ 7 → run (Digits d m) (cs ++ t) ≡ run (Digits d (m + length cs)) t
 run_digits [] d m t a h = ap (λ n. run (Digits d n) t) (let z : m ≡ m + 0 = omega arith in z)
 run_digits (c ∷ cs) d m t a h =
     let long : m + 1 + length cs ≡ m + length (c ∷ cs) = omega arith in
-    run_step (Digits d m) (Digits d (m + 1)) c (cs ++ t) (count-step d m c a.0 (omega arith)) ∙ run_digits cs d (m + 1) t a.1 (omega arith) ∙ ap (λ n. run (Digits d n) t) long
+    run_step (Digits d m) (Digits d (m + 1)) c (cs ++ t) (count-step d m c (All-head IsDigit c cs a) (omega arith)) ∙ run_digits cs d (m + 1) t (All-tail IsDigit c cs a) (omega arith) ∙ ap (λ n. run (Digits d n) t) long
 
 pub record RunsItem (d : ℕ) (bs t : List ℕ) : Type 0 where
   pub state : State

@@ -1,33 +1,26 @@
 -- A form is written in one way, and what stands after it is told by the bytes. Assumes nothing.
 use Rattle.std.proofs.Common.{◌≡◌, ℕ, zero, suc, List, [], ◌∷◌, ◌++◌, sym, refl, ap, ◌∙◌, subst, append_assoc, arith}
-use Rattle.std.specs.List.{AllByRecursion}
+use Rattle.std.specs.List.{All}
+use Rattle.std.proofs.lemmas.List.Elements.{All-cons, All-head, All-tail}
 use Rattle.grammar.specs.Forms.{Run, Ends, Form, Item, Items, form, number, nested, none, more, render, render_item, renders, line, IsLetter, IsDigit, IsNumber, Lawful, LawfulItem, Lawfuls}
 use Rattle.grammar.proofs.Runs.{write_form, write_more}
 
-abbrev tl : List ℕ → List ℕ
-tl [] = []
-tl (x ∷ xs) = xs
-
-abbrev hd : List ℕ → ℕ
-hd [] = 0
-hd (x ∷ xs) = x
-
 pub rest_same : {x y : ℕ} {xs ys : List ℕ} → x ∷ xs ≡ y ∷ ys → xs ≡ ys
-rest_same e = ap tl e
+rest_same e = cc
 
 pub head_same : {x y : ℕ} {xs ys : List ℕ} → x ∷ xs ≡ y ∷ ys → x ≡ y
-head_same e = ap hd e
+head_same e = cc
 
 pub run_clash : (P : ℕ → Type 0) (w t s : List ℕ) → Run P w → Ends P s → w ++ t ≡ s → ⊥
 run_clash P [] t s r h e = omega (arith, r.0)
-run_clash P (x ∷ w) t s r h e = subst (Ends P) (sym e) h r.1.0
+run_clash P (x ∷ w) t s r h e = subst (Ends P) (sym e) h (All-head P x w r.1)
 
-pub runs_same : (P : ℕ → Type 0) (w v x y : List ℕ) → AllByRecursion P w → AllByRecursion P v → Ends P x → Ends P y → w ++ x ≡ v ++ y → (w ≡ v) × (x ≡ y)
+pub runs_same : (P : ℕ → Type 0) (w v x y : List ℕ) → All P w → All P v → Ends P x → Ends P y → w ++ x ≡ v ++ y → (w ≡ v) × (x ≡ y)
 runs_same P [] [] x y p q h g e = (refl, e)
-runs_same P [] (b ∷ v) x y p q h g e = absurd (subst (Ends P) e h q.0)
-runs_same P (a ∷ w) [] x y p q h g e = absurd (subst (Ends P) (sym e) g p.0)
+runs_same P [] (b ∷ v) x y p q h g e = absurd (subst (Ends P) e h (All-head P b v q))
+runs_same P (a ∷ w) [] x y p q h g e = absurd (subst (Ends P) (sym e) g (All-head P a w p))
 runs_same P (a ∷ w) (b ∷ v) x y p q h g e =
-    let r = runs_same P w v x y p.1 q.1 h g (rest_same e) in
+    let r = runs_same P w v x y (All-tail P a w p) (All-tail P b v q) h g (rest_same e) in
     (ap (λ c. c ∷ w) (head_same e) ∙ ap (λ l. b ∷ l) r.0, r.1)
 
 -- words and numbers of any length, at any depth
@@ -45,7 +38,7 @@ abbrev mutual
 
 pub number-run : (d : List ℕ) → IsNumber d → Run IsDigit d
 number-run [] n = absurd n
-number-run (c ∷ cs) n = (omega arith, (n.0, n.1))
+number-run (c ∷ cs) n = (omega arith, All-cons IsDigit c cs n.0 n.1)
 
 mutual
   pub lawful_spelt : (f : Form) (n : ℕ) → Lawful f n → Spelt f

@@ -1,10 +1,12 @@
 -- Where a run goes no further the line is refused, and how. Assumes nothing.
-use Rattle.std.proofs.Common.{◌≡◌, ℕ, ◌+◌, ◌-◌, ◌≤◌, cond, eqb, ◌⊎◌, List, [], ◌∷◌, ◌++◌, length, Some, None, Option, sym, refl, ap, ◌∙◌, inl, inr, append_assoc, append-nil, arith, length-append}
+use Rattle.std.proofs.Common.{◌≡◌, ℕ, ◌+◌, ◌-◌, ◌≤◌, cond, eqb, count_by, ◌⊎◌, List, [], ◌∷◌, ◌++◌, length, Some, None, Option, sym, refl, ap, ◌∙◌, inl, inr, append_assoc, append-nil, arith, length-append}
 use Rattle.std.proofs.lemmas.Bool.Decides.{nat_tests}
-use Rattle.std.specs.List.{AllByRecursion}
+use Rattle.std.specs.List.{All}
+use Rattle.std.proofs.lemmas.List.Sums.{sum_by-cons}
+use Rattle.std.proofs.lemmas.List.Elements.{All-cons, All-head, All-tail}
 use Rattle.grammar.specs.Kinds.{kind}
 use Rattle.grammar.specs.Forms.{IsDigit}
-use Rattle.grammar.specs.Faults.{Begins, Whole, Halts, Eighth, Fifth, count, Faulty}
+use Rattle.grammar.specs.Faults.{Begins, Whole, Halts, Eighth, Fifth, Faulty}
 use Rattle.grammar.specs.States.{goes, after, from, run, fault_of}
 use Rattle.grammar.specs.declared.kind.Kind.{Kind}
 use Rattle.grammar.specs.declared.kind.Kind.TheVariants as kinds
@@ -27,107 +29,57 @@ deep_of Done = 0
 
 abbrev ups : Kind → ℕ
 ups kinds.Open = 1
-ups kinds.Close = 0
-ups kinds.Space = 0
-ups kinds.LineFeed = 0
-ups kinds.Letter = 0
-ups kinds.Zero = 0
-ups kinds.Digit = 0
-ups kinds.Other = 0
+ups _ = 0
 
 abbrev downs : Kind → ℕ
-downs kinds.Open = 0
 downs kinds.Close = 1
-downs kinds.Space = 0
-downs kinds.LineFeed = 0
-downs kinds.Letter = 0
-downs kinds.Zero = 0
-downs kinds.Digit = 0
-downs kinds.Other = 0
-
-deep_is : (s t : State) → s ≡ t → deep_of s ≡ deep_of t
-deep_is s t e = ap deep_of e
+downs _ = 0
 
 after_deep : (d : ℕ) (t : State) (k : Kind) → after d k ≡ Some t → d + ups k ≡ deep_of t + downs k
-after_deep d t kinds.Open e = absurd (none_some e)
-after_deep d t kinds.Close e = let q = not_zero d (Some (Closed (d - 1))) e in omega (arith, q.0, deep_is (Closed (d - 1)) t (some_is q.1))
-after_deep d t kinds.Space e = let q = not_zero d (Some (Item d)) e in omega (arith, deep_is (Item d) t (some_is q.1))
-after_deep d t kinds.LineFeed e = let q = only_zero d e in omega (arith, q.0, deep_is Done t q.1)
-after_deep d t kinds.Letter e = absurd (none_some e)
-after_deep d t kinds.Zero e = absurd (none_some e)
-after_deep d t kinds.Digit e = absurd (none_some e)
-after_deep d t kinds.Other e = absurd (none_some e)
+after_deep d t kinds.Close e = let q = not_zero d (Some (Closed (d - 1))) e in rw (← some_is q.1) (omega (arith, q.0))
+after_deep d t kinds.Space e = rw (← some_is (not_zero d (Some (Item d)) e).1) refl
+after_deep d t kinds.LineFeed e = let q = only_zero d e in rw (← q.1) (omega (arith, q.0))
+after_deep d t k e = cc
 
 step_deep : (s t : State) (k : Kind) → goes s k ≡ Some t → deep_of s + ups k ≡ deep_of t + downs k
-step_deep Start t kinds.Open e = omega (arith, deep_is (Word 1 0) t (some_is e))
-step_deep Start t kinds.Close e = absurd (none_some e)
-step_deep Start t kinds.Space e = absurd (none_some e)
-step_deep Start t kinds.LineFeed e = absurd (none_some e)
-step_deep Start t kinds.Letter e = absurd (none_some e)
-step_deep Start t kinds.Zero e = absurd (none_some e)
-step_deep Start t kinds.Digit e = absurd (none_some e)
-step_deep Start t kinds.Other e = absurd (none_some e)
-step_deep (Word d n) t kinds.Open e = absurd (none_some e)
+step_deep Start t kinds.Open e = rw (← some_is e) (omega arith)
+step_deep Start t k e = cc
 step_deep (Word d n) t kinds.Close e = after_deep d t kinds.Close (not_zero n (after d kinds.Close) e).1
 step_deep (Word d n) t kinds.Space e = after_deep d t kinds.Space (not_zero n (after d kinds.Space) e).1
 step_deep (Word d n) t kinds.LineFeed e = after_deep d t kinds.LineFeed (not_zero n (after d kinds.LineFeed) e).1
-step_deep (Word d n) t kinds.Letter e = omega (arith, deep_is (Word d (n + 1)) t (taken n 8 e).1)
-step_deep (Word d n) t kinds.Zero e = absurd (none_some e)
-step_deep (Word d n) t kinds.Digit e = absurd (none_some e)
-step_deep (Word d n) t kinds.Other e = absurd (none_some e)
-step_deep (Item d) t kinds.Open e = omega (arith, deep_is (Word (d + 1) 0) t (taken d 4 e).1)
-step_deep (Item d) t kinds.Close e = absurd (none_some e)
-step_deep (Item d) t kinds.Space e = absurd (none_some e)
-step_deep (Item d) t kinds.LineFeed e = absurd (none_some e)
-step_deep (Item d) t kinds.Letter e = absurd (none_some e)
-step_deep (Item d) t kinds.Zero e = omega (arith, deep_is (Zero d) t (some_is e))
-step_deep (Item d) t kinds.Digit e = omega (arith, deep_is (Digits d 1) t (some_is e))
-step_deep (Item d) t kinds.Other e = absurd (none_some e)
+step_deep (Word d n) t kinds.Letter e = rw (← (taken n 8 e).1) refl
+step_deep (Word d n) t k e = cc
+step_deep (Item d) t kinds.Open e = rw (← (taken d 4 e).1) (omega arith)
+step_deep (Item d) t kinds.Zero e = rw (← some_is e) refl
+step_deep (Item d) t kinds.Digit e = rw (← some_is e) refl
+step_deep (Item d) t k e = cc
 step_deep (Zero d) t k e = after_deep d t k e
-step_deep (Digits d n) t kinds.Open e = absurd (none_some e)
-step_deep (Digits d n) t kinds.Close e = after_deep d t kinds.Close e
-step_deep (Digits d n) t kinds.Space e = after_deep d t kinds.Space e
-step_deep (Digits d n) t kinds.LineFeed e = after_deep d t kinds.LineFeed e
-step_deep (Digits d n) t kinds.Letter e = absurd (none_some e)
-step_deep (Digits d n) t kinds.Zero e = omega (arith, deep_is (Digits d (n + 1)) t (taken n 7 e).1)
-step_deep (Digits d n) t kinds.Digit e = omega (arith, deep_is (Digits d (n + 1)) t (taken n 7 e).1)
-step_deep (Digits d n) t kinds.Other e = absurd (none_some e)
+step_deep (Digits d n) t kinds.Zero e = rw (← (taken n 7 e).1) refl
+step_deep (Digits d n) t kinds.Digit e = rw (← (taken n 7 e).1) refl
+step_deep (Digits d n) t k e = after_deep d t k e
 step_deep (Closed d) t k e = after_deep d t k e
-step_deep Done t k e = absurd (none_some e)
+step_deep Done t k e = cc
 
 ups_count : (c : ℕ) → ups (kind c) ≡ cond (eqb c 40) 1 0
-ups_count c = cases (kind c) refl
-  where
-    cases : (k : Kind) → kind c ≡ k → ups k ≡ cond (eqb c 40) 1 0
-    cases kinds.Open h = grind (arith, nat_tests)
-    cases kinds.Close h = grind (arith, nat_tests)
-    cases kinds.Space h = grind (arith, nat_tests)
-    cases kinds.LineFeed h = grind (arith, nat_tests)
-    cases kinds.Letter h = grind (arith, nat_tests)
-    cases kinds.Zero h = grind (arith, nat_tests)
-    cases kinds.Digit h = grind (arith, nat_tests)
-    cases kinds.Other h = grind (arith, nat_tests)
+ups_count c = grind (arith, nat_tests)
 
 downs_count : (c : ℕ) → downs (kind c) ≡ cond (eqb c 41) 1 0
-downs_count c = cases (kind c) refl
-  where
-    cases : (k : Kind) → kind c ≡ k → downs k ≡ cond (eqb c 41) 1 0
-    cases kinds.Open h = grind (arith, nat_tests)
-    cases kinds.Close h = grind (arith, nat_tests)
-    cases kinds.Space h = grind (arith, nat_tests)
-    cases kinds.LineFeed h = grind (arith, nat_tests)
-    cases kinds.Letter h = grind (arith, nat_tests)
-    cases kinds.Zero h = grind (arith, nat_tests)
-    cases kinds.Digit h = grind (arith, nat_tests)
-    cases kinds.Other h = grind (arith, nat_tests)
+downs_count c = grind (arith, nat_tests)
+
+-- how often the byte stands in the list
+abbrev count : ℕ → List ℕ → ℕ
+count b cs = count_by (λ c. eqb c b) cs
+
+count-cons : (b c : ℕ) (cs : List ℕ) → count b (c ∷ cs) ≡ cond (eqb c b) 1 0 + count b cs
+count-cons b c cs = sum_by-cons (λ x. cond (eqb x b) 1 0) c cs
 
 run_deep : (cs : List ℕ) (s t : State) → run s cs ≡ Some t → deep_of s + count 40 cs ≡ deep_of t + count 41 cs
-run_deep [] s t e = omega (arith, deep_is s t (some_is e))
+run_deep [] s t e = rw (← some_is e) refl
 run_deep (c ∷ cs) s t e = cases (goes s (kind c)) refl e (λ u q. run_deep cs u t q)
   where
     cases : (o : Option State) → goes s (kind c) ≡ o → from o cs ≡ Some t → ((u : State) → run u cs ≡ Some t → deep_of u + count 40 cs ≡ deep_of t + count 41 cs) → deep_of s + count 40 (c ∷ cs) ≡ deep_of t + count 41 (c ∷ cs)
-    cases None h q on = absurd (none_some q)
-    cases (Some u) h q on = omega (arith, step_deep s u (kind c) h, ups_count c, downs_count c, on u q)
+    cases None h q on = cc
+    cases (Some u) h q on = omega (arith, step_deep s u (kind c) h, ups_count c, downs_count c, count-cons 40 c cs, count-cons 41 c cs, on u q)
 
 -- after a space an item is read
 
@@ -135,13 +87,11 @@ after_space : (d : ℕ) (t : State) → after d kinds.Space ≡ Some t → (e : 
 after_space d t e = (d, sym (some_is (not_zero d (Some (Item d)) e).1))
 
 step_space : (s t : State) → goes s kinds.Space ≡ Some t → (e : ℕ) × (t ≡ Item e)
-step_space Start t e = absurd (none_some e)
 step_space (Word d n) t e = after_space d t (not_zero n (after d kinds.Space) e).1
-step_space (Item d) t e = absurd (none_some e)
 step_space (Zero d) t e = after_space d t e
 step_space (Digits d n) t e = after_space d t e
 step_space (Closed d) t e = after_space d t e
-step_space Done t e = absurd (none_some e)
+step_space s t e = cc
 
 one_step : (s t : State) (c : ℕ) → run s (c ∷ []) ≡ Some t → goes s (kind c) ≡ Some t
 one_step s t c e = cases (goes s (kind c)) refl e
@@ -155,20 +105,20 @@ spaced u t e = let q = front_runs Start t u (32 ∷ []) e in step_space q.0 t (o
 
 -- seven digits after a space
 
-seven : (ds : List ℕ) (d : ℕ) (t : State) → length ds ≡ 7 → AllByRecursion IsDigit ds → run (Item d) ds ≡ Some t → t ≡ Digits d 7
+seven : (ds : List ℕ) (d : ℕ) (t : State) → length ds ≡ 7 → All IsDigit ds → run (Item d) ds ≡ Some t → t ≡ Digits d 7
 seven [] d t n a e = absurd (omega arith)
 seven (c ∷ []) d t n a e = absurd (omega arith)
-seven (c ∷ b ∷ cs) d t n a e = first (figure_kind c a.0)
+seven (c ∷ b ∷ cs) d t n a e = first (figure_kind c (All-head IsDigit c (b ∷ cs) a))
   where
     second : (kind b ≡ kinds.Zero) ⊎ (kind b ≡ kinds.Digit) → run (Zero d) (b ∷ cs) ≡ Some t → ⊥
     second (inl h) q = none_some (sym (ap (λ k. from (goes (Zero d) k) cs) h) ∙ q)
     second (inr h) q = none_some (sym (ap (λ k. from (goes (Zero d) k) cs) h) ∙ q)
 
     first : (kind c ≡ kinds.Zero) ⊎ (kind c ≡ kinds.Digit) → t ≡ Digits d 7
-    first (inl h) = absurd (second (figure_kind b a.1.0) (sym (ap (λ k. from (goes (Item d) k) (b ∷ cs)) h) ∙ e))
+    first (inl h) = absurd (second (figure_kind b (All-head IsDigit b cs (All-tail IsDigit c (b ∷ cs) a))) (sym (ap (λ k. from (goes (Item d) k) (b ∷ cs)) h) ∙ e))
     first (inr h) =
         let rest : run (Digits d 1) (b ∷ cs) ≡ Some t = sym (ap (λ k. from (goes (Item d) k) (b ∷ cs)) h) ∙ e in
-        let all : run (Digits d 1) ((b ∷ cs) ++ []) ≡ Some (Digits d (1 + length (b ∷ cs))) = run_digits (b ∷ cs) d 1 [] a.1 (omega arith) in
+        let all : run (Digits d 1) ((b ∷ cs) ++ []) ≡ Some (Digits d (1 + length (b ∷ cs))) = run_digits (b ∷ cs) d 1 [] (All-tail IsDigit c (b ∷ cs) a) (omega arith) in
         let long : 1 + length (b ∷ cs) ≡ 7 = omega arith in
         some_is (sym rest ∙ ap (run (Digits d 1)) (sym (append-nil (b ∷ cs))) ∙ all) ∙ ap (Digits d) long
 
@@ -204,10 +154,10 @@ refuse_end s p start e n =
     }
 
 byte_long : (a b : ℕ) → forbidden a ≡ too_long b → ⊥
-byte_long a b e = let z : ◌≡◌ {A = ℕ} 0 1 = cc in omega arith
+byte_long a b e = cc
 
 byte_deep : (a b : ℕ) → forbidden a ≡ too_deep b → ⊥
-byte_deep a b e = let z : ◌≡◌ {A = ℕ} 0 1 = cc in omega arith
+byte_deep a b e = cc
 
 refuse_byte : (s : State) (p : List ℕ) (c : ℕ) (q : List ℕ) (start : ℕ) → run Start p ≡ Some s → Halts (p ++ c ∷ q) p (c ∷ q) → forbidden (start + length p) ≡ fault_of s (kind c) (start + length p) → Faulty start (p ++ c ∷ q) (forbidden (start + length p))
 refuse_byte s p c q start e halts is =
@@ -217,9 +167,6 @@ refuse_byte s p c q start e halts is =
       fact = record { p = p; q = c ∷ q; halts = halts; here = refl; not_long = long; not_deep = deep };
     }
   where
-    at : ℕ
-    at = start + length p
-
     long_case : (d : ℕ) → s ≡ Digits d 7 → (kind c ≡ kinds.Zero) ⊎ (kind c ≡ kinds.Digit) → ⊥
     long_case d h (inl k) = byte_long (start + length p) (start + length p - 7) (is ∙ ap (λ t. fault_of t (kind c) (start + length p)) h ∙ ap (λ t. fault_of (Digits d 7) t (start + length p)) k)
     long_case d h (inr k) = byte_long (start + length p) (start + length p - 7) (is ∙ ap (λ t. fault_of t (kind c) (start + length p)) h ∙ ap (λ t. fault_of (Digits d 7) t (start + length p)) k)
@@ -268,55 +215,32 @@ refuse_long d n p c q start e k h halts =
         u = r.before;
         ds = r.first ∷ r.others;
         halts = halts;
-        long = record { cut = cut; seven = omega (arith, r.long, r.fits); digits = ((omega (arith, r.low), r.high), r.figures); next = k };
+        long = record { cut = cut; seven = omega (arith, r.long, r.fits); digits = All-cons IsDigit r.first r.others (omega (arith, r.low), r.high) r.figures; next = k };
         here = refl;
       };
     }
 
 -- a byte that has no step is refused as `fault_of` says
 pub refuse : (s : State) (p : List ℕ) (c : ℕ) (q : List ℕ) (start : ℕ) → run Start p ≡ Some s → (s ≡ Done → ⊥) → goes s (kind c) ≡ None → Faulty start (p ++ c ∷ q) (fault_of s (kind c) (start + length p))
-refuse Start p c q start e n h = refuse_byte Start p c q start e (halts_at Start p c q e n h) refl
-refuse (Word d m) p c q start e n h = refuse_byte (Word d m) p c q start e (halts_at (Word d m) p c q e n h) refl
 refuse (Item d) p c q start e n h = cases (kind c) refl h
   where
     halts : Halts (p ++ c ∷ q) p (c ∷ q)
     halts = halts_at (Item d) p c q e n h
 
-    byte : (k : Kind) → kind c ≡ k → forbidden (start + length p) ≡ fault_of (Item d) k (start + length p) → Faulty start (p ++ c ∷ q) (forbidden (start + length p))
-    byte k is b = refuse_byte (Item d) p c q start e halts (b ∙ ap (λ t. fault_of (Item d) t (start + length p)) (sym is))
-
     cases : (k : Kind) → kind c ≡ k → goes (Item d) k ≡ None → Faulty start (p ++ c ∷ q) (fault_of (Item d) k (start + length p))
     cases kinds.Open is g = refuse_deep d p c q start e is g halts
-    cases kinds.Close is g = byte kinds.Close is refl
-    cases kinds.Space is g = byte kinds.Space is refl
-    cases kinds.LineFeed is g = byte kinds.LineFeed is refl
-    cases kinds.Letter is g = byte kinds.Letter is refl
-    cases kinds.Zero is g = byte kinds.Zero is refl
-    cases kinds.Digit is g = byte kinds.Digit is refl
-    cases kinds.Other is g = byte kinds.Other is refl
-refuse (Zero d) p c q start e n h = refuse_byte (Zero d) p c q start e (halts_at (Zero d) p c q e n h) refl
+    cases k is g = refuse_byte (Item d) p c q start e halts (ap (λ t. fault_of (Item d) t (start + length p)) (sym is))
 refuse (Digits d m) p c q start e n h = cases (kind c) refl h
   where
     halts : Halts (p ++ c ∷ q) p (c ∷ q)
     halts = halts_at (Digits d m) p c q e n h
 
-    byte : (k : Kind) → kind c ≡ k → forbidden (start + length p) ≡ fault_of (Digits d m) k (start + length p) → Faulty start (p ++ c ∷ q) (forbidden (start + length p))
-    byte k is b = refuse_byte (Digits d m) p c q start e halts (b ∙ ap (λ t. fault_of (Digits d m) t (start + length p)) (sym is))
-
-    nought : kind c ≡ kinds.Zero → IsDigit c
-    nought is = let k = is_zero c is in (omega arith, omega arith)
-
-    digit : kind c ≡ kinds.Digit → IsDigit c
-    digit is = let k = is_digit c is in (omega (arith, k.0), k.1)
+    figure : IsDigit c → goes (Digits d m) kinds.Digit ≡ None → Faulty start (p ++ c ∷ q) (too_long (start + length p - m))
+    figure is g = refuse_long d m p c q start e is (left_out m 7 (Digits d (m + 1)) g) halts
 
     cases : (k : Kind) → kind c ≡ k → goes (Digits d m) k ≡ None → Faulty start (p ++ c ∷ q) (fault_of (Digits d m) k (start + length p))
-    cases kinds.Open is g = byte kinds.Open is refl
-    cases kinds.Close is g = byte kinds.Close is refl
-    cases kinds.Space is g = byte kinds.Space is refl
-    cases kinds.LineFeed is g = byte kinds.LineFeed is refl
-    cases kinds.Letter is g = byte kinds.Letter is refl
-    cases kinds.Zero is g = refuse_long d m p c q start e (nought is) (left_out m 7 (Digits d (m + 1)) g) halts
-    cases kinds.Digit is g = refuse_long d m p c q start e (digit is) (left_out m 7 (Digits d (m + 1)) g) halts
-    cases kinds.Other is g = byte kinds.Other is refl
-refuse (Closed d) p c q start e n h = refuse_byte (Closed d) p c q start e (halts_at (Closed d) p c q e n h) refl
+    cases kinds.Zero is g = figure (let k = is_zero c is in (omega arith, omega arith)) g
+    cases kinds.Digit is g = figure (let k = is_digit c is in (omega (arith, k.0), k.1)) g
+    cases k is g = refuse_byte (Digits d m) p c q start e halts (ap (λ t. fault_of (Digits d m) t (start + length p)) (sym is))
 refuse Done p c q start e n h = absurd (n refl)
+refuse s p c q start e n h = refuse_byte s p c q start e (halts_at s p c q e n h) refl

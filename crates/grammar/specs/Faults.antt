@@ -1,6 +1,6 @@
 -- What each fault says of the bytes from the start of a line on, in terms of the lawful lines alone.
-use Rattle.std.specs.Prelude.{◌≡◌, ℕ, ◌+◌, cond, List, [], ◌∷◌, ◌++◌, length, ◌==◌}
-use Rattle.std.specs.List.{AllByRecursion}
+use Rattle.std.specs.Prelude.{◌≡◌, ℕ, ◌+◌, List, [], ◌∷◌, ◌++◌, length, ◌==◌, count_by}
+use Rattle.std.specs.List.{All}
 use Rattle.grammar.specs.Forms.{Form, Lawful, line, IsDigit}
 
 -- what a line can be refused for by the grammar, and the offset at which it is
@@ -52,18 +52,13 @@ pub record Halts (bs p q : List ℕ) : Type 0 where
 pub record Eighth (p q u ds : List ℕ) : Type 0 where
   pub cut : p ≡ (u ++ 32 ∷ []) ++ ds
   pub seven : length ds ≡ 7
-  pub digits : AllByRecursion IsDigit ds
+  pub digits : All IsDigit ds
   pub next : First IsDigit q
-
--- how often the byte stands in the list
-abbrev pub count : ℕ → List ℕ → ℕ
-count b [] = 0
-count b (c ∷ cs) = cond (c == b) 1 0 + count b cs
 
 -- an item stands next in the innermost of four open forms, and q opens one more
 pub record Fifth (p q u : List ℕ) : Type 0 where
   pub cut : p ≡ u ++ 32 ∷ []
-  pub four : count 40 p ≡ count 41 p + 4
+  pub four : count_by (λ c. c == 40) p ≡ count_by (λ c. c == 41) p + 4
   pub next : First (λ c. c ≡ 40) q
 
 -- The byte at o, or the end, is one with which no lawful line goes on; it is no eighth digit and opens no fifth level.

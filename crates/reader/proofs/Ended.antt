@@ -1,5 +1,5 @@
 -- Whole lines, and lines that are refused. Assumes nothing.
-use Rattle.std.proofs.Common.{◌≡◌, ℕ, ◌+◌, ◌-◌, List, [], ◌∷◌, ◌++◌, length, take, Some, Err, Result, sym, refl, ap, ◌∙◌, subst, append-nil, arith}
+use Rattle.std.proofs.Common.{◌≡◌, ℕ, ◌+◌, ◌-◌, List, [], ◌∷◌, ◌++◌, length, take, Some, sym, refl, ap, ◌∙◌, subst, append-nil, arith}
 use Rattle.std.proofs.lemmas.List.{take_at}
 use Rattle.grammar.specs.Kinds.{kind}
 use Rattle.grammar.specs.Faults.{forbidden, Faulty, Whole}
@@ -9,7 +9,7 @@ use Rattle.grammar.proofs.Reach.{reached}
 use Rattle.grammar.proofs.Stuck.{refuse, refuse_end}
 use Rattle.tasks.specs.declared.refusal.Refusal.{Refusal}
 use Rattle.reader.specs.Tokens.{rest, Went, Past}
-use Rattle.reader.specs.Lines.{RefusedLine, ReadLine, LineSteps}
+use Rattle.reader.specs.Lines.{RefusedLine, ReadLine}
 use Rattle.reader.specs.Progress.{Tells, Stuck, ReadForm}
 use Rattle.reader.specs.declared.reader.Line.{Line}
 use Rattle.reader.specs.declared.reader.Reader.{Reader}
@@ -60,7 +60,3 @@ line_read {a} {b} {e} {g} l po io f pf if bytes at =
       at = at;
       went = subst (Went a g) (sym w.is) went;
     }
-
--- the exits of `?`
-pub line_break : (a b : Reader) (r : Result Line Refusal) (x y : Refusal) → r ≡ Err x → x ≡ y → b ≡ a → Stuck Start (rest a) a.position y → LineSteps a r b
-line_break a b r x y e is same k = subst (λ q. LineSteps a q b) (sym (e ∙ ap Err is)) (same, stuck_refused (rest a) a.position y k)

@@ -1,20 +1,19 @@
 -- What holds past a token. Assumes nothing.
-use Rattle.std.proofs.Common.{◌≡◌, ℕ, zero, suc, ◌+◌, ◌<◌, ◌≤◌, eqb, ◌⊎◌, List, [], ◌∷◌, ◌++◌, length, get_or, take, drop, sym, ap, ◌∙◌, subst, inl, inr, arith, length-drop, take-append-drop}
-use Rattle.std.specs.List.{AllByRecursion}
-use Rattle.std.proofs.lemmas.List.{drop-drop, length-take-le}
-use Rattle.std.proofs.ByRecursion.{All-weaker}
+use Rattle.std.proofs.Common.{◌≡◌, ℕ, zero, suc, ◌+◌, ◌<◌, ◌≤◌, Bool, true, false, not, ◌⊎◌, List, [], ◌∷◌, ◌++◌, length, get_or, take, drop, sym, refl, ap, ◌∙◌, subst, arith, length-drop, take-append-drop}
+use Rattle.std.specs.List.{All, before_first, position_or_len}
+use Rattle.std.specs.Char.{is_ascii_digit, is_ascii_lowercase}
+use Rattle.std.proofs.lemmas.List.{drop-drop, drop_more, get_or-take, length-take-le}
+use Rattle.std.proofs.lemmas.List.Sums.{fails_before_first, passes_at_first, prefix_len-le-length}
 use Rattle.std.proofs.lemmas.Bool.Decides.{nat_tests}
 use Rattle.grammar.specs.Kinds.{kind}
 use Rattle.grammar.specs.Forms.{IsLetter, IsDigit, Run, Ends}
 use Rattle.grammar.specs.declared.kind.Kind.{Kind}
 use Rattle.grammar.specs.declared.kind.Kind.TheVariants as kinds
-use Rattle.reader.specs.Tokens.{rest, class, spells, Maximal, Past, NoToken}
+use Rattle.grammar.proofs.Same.{head_same}
+use Rattle.reader.specs.Tokens.{rest, spells, Maximal, Past}
 use Rattle.reader.specs.declared.reader.Reader.{Reader}
 use Rattle.reader.specs.declared.reader.TokenAt.{TokenAt}
 use Rattle.reader.specs.declared.reader.Token.{Token}
-
-pub end_test : (s : List ℕ) (n : ℕ) → n ≤ length s → eqb n (length s) ≡ eqb (length (drop n s)) 0
-end_test s n h = let long = length-drop n s in grind (arith, nat_tests)
 
 -- the token is the front of what is left, and the reader moves over it
 pass :
@@ -32,61 +31,59 @@ pass a b t n same at to fits is maximal =
       maximal = subst (Maximal t.token) (sym left) maximal;
     }
 
--- as the code of `next` has it: the token is the first m bytes of the tail, and the position goes up by its width
+-- as the code of `next` has it: the token is the first m bytes that are left, and the position goes up by its width
 pub by_front :
-    (a b : Reader) (t : TokenAt) (tok : Token) (tail : List ℕ) (m n : ℕ) → tail ≡ rest a → b.sheet ≡ a.sheet → t.at ≡ a.position → b.position ≡ a.position + n → n ≡ length (spells t.token) → t.token ≡ tok → spells tok ≡ take m tail → m ≤ length tail → Maximal tok (drop m tail) → Past a t b
-by_front a b t tok tail m n here same at to width is front fits maximal =
-    let long : n ≡ m = width ∙ ap (λ k. length (spells k)) is ∙ ap length front ∙ length-take-le m tail fits in
-    pass a b t m same at (to ∙ ap (λ k. a.position + k) long) (subst (λ l. m ≤ length l) here fits) (ap spells is ∙ front ∙ ap (take m) here) (subst (λ k. Maximal k (drop m (rest a))) (sym is) (subst (λ l. Maximal tok (drop m l)) here maximal))
+    (a b : Reader) (t : TokenAt) (tok : Token) (m n : ℕ) → b.sheet ≡ a.sheet → t.at ≡ a.position → b.position ≡ a.position + n → n ≡ length (spells t.token) → t.token ≡ tok → spells tok ≡ take m (rest a) → m ≤ length (rest a) → Maximal tok (drop m (rest a)) → Past a t b
+by_front a b t tok m n same at to width is front fits maximal =
+    let long : n ≡ m = width ∙ ap (λ k. length (spells k)) is ∙ ap length front ∙ length-take-le m (rest a) fits in
+    pass a b t m same at (to ∙ ap (λ k. a.position + k) long) fits (ap spells is ∙ front) (subst (λ k. Maximal k (drop m (rest a))) (sym is) maximal)
 
 -- the front of one byte
 pub front_one : (xs : List ℕ) (b : ℕ) → 0 < length xs → get_or xs 0 0 ≡ b → b ∷ [] ≡ take 1 xs
 front_one [] b some is = absurd (omega arith)
 front_one (x ∷ xs) b some is = ap (λ y. y ∷ []) (sym is)
 
--- classes
+-- the bytes before the first that ends a run
 
-pub class_letter : (c : ℕ) → class c ≡ kinds.Letter → IsLetter c
-class_letter c h = (grind (arith, nat_tests), grind (arith, nat_tests))
+module _ (P : ℕ → Type 0) (ends : ℕ → Bool) (yes : (c : ℕ) → ends c ≡ false → P c) (no : (c : ℕ) → ends c ≡ true → P c → ⊥) (tail : List ℕ) where
+  abbrev stop : ℕ
+  stop = position_or_len ends tail
 
-pub letter_class : (c : ℕ) → IsLetter c → class c ≡ kinds.Letter
-letter_class c (a, b) = grind (arith, nat_tests)
+  front_all : All P (before_first ends tail)
+  front_all = λ k d lt.
+      let within : k < stop = omega (arith, length-take-le stop tail (prefix_len-le-length _ tail)) in
+      subst P (sym (get_or-take stop tail k d within)) (yes (get_or tail k d) (fails_before_first ends tail k d within))
 
-pub class_figure : (c : ℕ) → class c ≡ kinds.Digit → IsDigit c
-class_figure c h = (grind (arith, nat_tests), grind (arith, nat_tests))
+  front_ends : Ends P (drop stop tail)
+  front_ends = cases (drop stop tail) refl
+    where
+      cases : (l : List ℕ) → drop stop tail ≡ l → Ends P l
+      cases [] e = tt
+      cases (c ∷ l) e =
+          let within : stop < length tail = omega (arith, ap length e, length-drop stop tail) in
+          let here : get_or tail stop 0 ≡ c = head_same (sym (drop_more tail stop 0 within) ∙ e) in
+          no c (sym (ap ends here) ∙ passes_at_first ends tail 0 within)
 
-pub figure_class : (c : ℕ) → IsDigit c → class c ≡ kinds.Digit
-figure_class c (a, b) = grind (arith, nat_tests)
+  front_some : 0 < length tail → ends (get_or tail 0 0) ≡ false → 0 < stop
+  front_some some first = cases stop refl
+    where
+      cases : (n : ℕ) → stop ≡ n → 0 < n
+      cases zero e = let last : ends (get_or tail stop 0) ≡ true = passes_at_first ends tail 0 (omega (arith, e)) in let never : false ≡ true = sym first ∙ ap (λ n. ends (get_or tail n 0)) (sym e) ∙ last in cc
+      cases (suc n) e = omega arith
 
-pub kind_letter : (c : ℕ) → kinds.Letter ≡ kind c → class c ≡ kinds.Letter
-kind_letter c h = grind (arith, nat_tests)
+  pub fronted : 0 < length tail → ends (get_or tail 0 0) ≡ false → Run P (before_first ends tail) × Ends P (drop stop tail)
+  fronted some first =
+      let fits = length-take-le stop tail (prefix_len-le-length _ tail) in
+      ((omega (arith, fits, front_some some first), front_all), front_ends)
 
-pub kind_figure : (c : ℕ) (k : Kind) → k ≡ kind c → (k ≡ kinds.Zero) ⊎ (k ≡ kinds.Digit) → class c ≡ kinds.Digit
-kind_figure c k is (inl h) = grind (arith, nat_tests)
-kind_figure c k is (inr h) = grind (arith, nat_tests)
+abbrev pub no_letter : ℕ → Bool
+no_letter c = not (is_ascii_lowercase c)
 
-ends_weaker : (P Q : ℕ → Type 0) → ((c : ℕ) → Q c → P c) → (xs : List ℕ) → Ends P xs → Ends Q xs
-ends_weaker P Q f [] h = tt
-ends_weaker P Q f (x ∷ xs) h = λ q. h (f x q)
+abbrev pub no_figure : ℕ → Bool
+no_figure c = not (is_ascii_digit c)
 
--- a run that begins with a byte of its kind is not empty
-run_some : (k : Kind) (tail : List ℕ) (m : ℕ) → 0 < length tail → class (get_or tail 0 0) ≡ k → Ends (λ c. class c ≡ k) (drop m tail) → 0 < m
-run_some k [] m some is stops = absurd (omega arith)
-run_some k (x ∷ xs) zero some is stops = absurd (stops is)
-run_some k (x ∷ xs) (suc m) some is stops = omega arith
+pub letters_front : (tail : List ℕ) → 0 < length tail → kinds.Letter ≡ kind (get_or tail 0 0) → Run IsLetter (before_first no_letter tail) × Ends IsLetter (drop (position_or_len no_letter tail) tail)
+letters_front tail some is = fronted IsLetter no_letter (λ c h. (grind (arith, nat_tests), grind (arith, nat_tests))) (λ c h (a, b). grind (arith, nat_tests)) tail some (grind (arith, nat_tests))
 
--- all that `run_len` counts is of P, where P is the class
-pub counted :
-    (P : ℕ → Type 0) (k : Kind) → ((c : ℕ) → class c ≡ k → P c) → ((c : ℕ) → P c → class c ≡ k) → (tail : List ℕ) (m : ℕ) → 0 < length tail → class (get_or tail 0 0) ≡ k → m ≤ length tail → AllByRecursion (λ c. class c ≡ k) (take m tail) → Ends (λ c. class c ≡ k) (drop m tail) → Run P (take m tail) × Ends P (drop m tail)
-counted P k to from tail m some is within all stops =
-    let long = length-take-le m tail within in
-    let more = run_some k tail m some is stops in
-    ((omega arith, All-weaker (λ c. class c ≡ k) P to (take m tail) all), ends_weaker (λ c. class c ≡ k) P from (drop m tail) stops)
-
-pub other_head : (xs : List ℕ) → 0 < length xs → kinds.Other ≡ kind (get_or xs 0 0) → NoToken xs
-other_head [] some is = absurd (omega arith)
-other_head (x ∷ xs) some is = sym is
-
-pub other_none : (xs : List ℕ) → length xs ≡ 0 → NoToken xs
-other_none [] e = tt
-other_none (x ∷ xs) e = absurd (omega arith)
+pub figures_front : (tail : List ℕ) (k : Kind) → 0 < length tail → k ≡ kind (get_or tail 0 0) → (k ≡ kinds.Zero) ⊎ (k ≡ kinds.Digit) → Run IsDigit (before_first no_figure tail) × Ends IsDigit (drop (position_or_len no_figure tail) tail)
+figures_front tail k some is which = fronted IsDigit no_figure (λ c h. (grind (arith, nat_tests), grind (arith, nat_tests))) (λ c h (a, b). grind (arith, nat_tests)) tail some (grind (arith, nat_tests))

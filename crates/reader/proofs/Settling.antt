@@ -1,9 +1,9 @@
 -- Words, numbers and items: the run over each, and what may stand next. Assumes nothing.
 use Rattle.std.proofs.Common.{◌≡◌, ℕ, ◌+◌, ◌-◌, ◌<◌, ◌≤◌, Bool, true, false, cond, ◌&&◌, eqb, ltb, ◌⊎◌, List, [], ◌∷◌, ◌++◌, length, get_or, take, drop, Some, None, Ok, Err, Result, sym, refl, ap, ◌∙◌, subst, inl, inr, append_assoc, append-nil, arith, take-append-drop, Bor}
 use Rattle.std.proofs.lemmas.Bool.{cond-false, cond-true, le-ltb, lt-ltb}
-use Rattle.std.specs.List.{AllByRecursion}
+use Rattle.std.specs.List.{All}
 use Rattle.std.proofs.lemmas.List.{drop_more, length-take-le}
-use Rattle.std.proofs.ByRecursion.{All-take, All-get_or}
+use Rattle.std.proofs.lemmas.List.Elements.{All-take, All-get_or, All-head, All-tail}
 use Rattle.std.proofs.lemmas.Bool.Decides.{nat_tests}
 use Rattle.grammar.specs.Kinds.{kind}
 use Rattle.grammar.specs.Forms.{IsLetter, IsDigit, Run, Ends}
@@ -20,7 +20,7 @@ use Rattle.reader.specs.Progress.{refused, word_refusal, number_refusal, Tells, 
 use Rattle.reader.specs.declared.reader.Reader.{Reader}
 use Rattle.reader.specs.declared.reader.TokenAt.{TokenAt}
 use Rattle.reader.specs.declared.reader.Token.TheVariants as tokens
-use Rattle.reader.proofs.Stalled.{went_then, went_token, run_then, stuck_later, stuck_here, stuck_strange, stuck_token, item_undone, word_undone, nought_undone, digits_undone, heads, no_space, no_close}
+use Rattle.reader.proofs.Stalled.{went_then, went_token, run_then, stuck_later, stuck_here, stuck_strange, stuck_token, heads, no_space, no_close}
 
 -- a run that is stuck at a byte after a front of the list
 stuck_at : (s t : State) (xs after : List ℕ) (n start : ℕ) {y : Refusal} → n < length xs → run s (take n xs) ≡ Some t → (t ≡ Done → ⊥) → goes t (kind (get_or xs n 0)) ≡ None → y ≡ refusal_for (fault_of t (kind (get_or xs n 0)) (start + n)) → Stuck s (xs ++ after) start y
@@ -39,14 +39,10 @@ stuck_at s t xs after n start {y} h e u g is =
 -- past a word or an item only a space and a ')' are in place
 
 after_others : (d : ℕ) (k : Kind) → 0 < d → (k ≡ kinds.Space → ⊥) → (k ≡ kinds.Close → ⊥) → after d k ≡ None
-after_others d kinds.Open h s e = refl
 after_others d kinds.Close h s e = absurd (e refl)
 after_others d kinds.Space h s e = absurd (s refl)
 after_others d kinds.LineFeed h s e = cond-false (eqb d 0) (Some Done) None (zero_no d h)
-after_others d kinds.Letter h s e = refl
-after_others d kinds.Zero h s e = refl
-after_others d kinds.Digit h s e = refl
-after_others d kinds.Other h s e = refl
+after_others d k h s e = refl
 
 pub closed_settled : (d : ℕ) (bs : List ℕ) → 0 < d → Settled (Closed d) d bs
 closed_settled d bs h = record { space = (after_settled d h).0; close = (after_settled d h).1; others = others bs }
@@ -66,14 +62,12 @@ digits_settled : (d n : ℕ) (bs : List ℕ) → 0 < d → Ends IsDigit bs → S
 digits_settled d n bs h m = record { space = (after_settled d h).0; close = (after_settled d h).1; others = others bs m }
   where
     cases : (k : Kind) → (k ≡ kinds.Zero → ⊥) → (k ≡ kinds.Digit → ⊥) → (k ≡ kinds.Space → ⊥) → (k ≡ kinds.Close → ⊥) → Forbids (Digits d n) k
-    cases kinds.Open x y s e = (refl, λ at. refl)
-    cases kinds.Close x y s e = absurd (e refl)
-    cases kinds.Space x y s e = absurd (s refl)
-    cases kinds.LineFeed x y s e = (after_others d kinds.LineFeed h s e, λ at. refl)
-    cases kinds.Letter x y s e = (refl, λ at. refl)
     cases kinds.Zero x y s e = absurd (x refl)
     cases kinds.Digit x y s e = absurd (y refl)
-    cases kinds.Other x y s e = (refl, λ at. refl)
+    cases kinds.LineFeed x y s e = (after_others d kinds.LineFeed h s e, λ at. refl)
+    cases kinds.Close x y s e = absurd (e refl)
+    cases kinds.Space x y s e = absurd (s refl)
+    cases k x y s e = (refl, λ at. refl)
 
     others : (bs : List ℕ) → Ends IsDigit bs → OthersForbidden (Digits d n) bs
     others [] m = tt
@@ -83,14 +77,11 @@ spelt_settled : (d n : ℕ) (bs : List ℕ) → 0 < d → 0 < n → Ends IsLette
 spelt_settled d n bs h g m = record { space = (word_settled d n h g).0; close = (word_settled d n h g).1; others = others bs m }
   where
     cases : (k : Kind) → (k ≡ kinds.Letter → ⊥) → (k ≡ kinds.Space → ⊥) → (k ≡ kinds.Close → ⊥) → Forbids (Word d n) k
-    cases kinds.Open x s e = (refl, λ at. refl)
     cases kinds.Close x s e = absurd (e refl)
     cases kinds.Space x s e = absurd (s refl)
     cases kinds.LineFeed x s e = (cond-false (eqb n 0) None (after d kinds.LineFeed) (zero_no n g) ∙ after_others d kinds.LineFeed h s e, λ at. refl)
     cases kinds.Letter x s e = absurd (x refl)
-    cases kinds.Zero x s e = (refl, λ at. refl)
-    cases kinds.Digit x s e = (refl, λ at. refl)
-    cases kinds.Other x s e = (refl, λ at. refl)
+    cases k x s e = (refl, λ at. refl)
 
     others : (bs : List ℕ) → Ends IsLetter bs → OthersForbidden (Word d n) bs
     others [] m = tt
@@ -101,7 +92,7 @@ settled_undone s d bs h e = none_some (sym (ap (λ t. goes t kinds.Space) e) ∙
 
 -- words
 
-letters_run : (w : List ℕ) (d : ℕ) → AllByRecursion IsLetter w → length w ≤ 8 → run (Word d 0) w ≡ Some (Word d (length w))
+letters_run : (w : List ℕ) (d : ℕ) → All IsLetter w → length w ≤ 8 → run (Word d 0) w ≡ Some (Word d (length w))
 letters_run w d all h =
     let none : 0 + length w ≡ length w = omega arith in
     ap (run (Word d 0)) (sym (append-nil w)) ∙ run_word w d 0 [] all (omega arith) ∙ ap (λ n. Some (Word d n)) none
@@ -141,31 +132,27 @@ word_refused d {a} {b} {t} {x} {y} p is long =
     let runs : run (Word d 0) (take 8 w) ≡ Some (Word d 8) = letters_run (take 8 w) d (All-take IsLetter 8 w m.0.1) (omega arith) ∙ ap (λ n. Some (Word d n)) eight in
     let place : ForbiddenByte (t.at + 8) ≡ ForbiddenByte (a.position + 8) = ap (λ n. ForbiddenByte (n + 8)) p.at in
     subst (λ l. Stuck (Word d 0) l a.position y) (sym (went_token p is).bytes)
-    (stuck_at (Word d 0) (Word d 8) w (rest b) 8 a.position q.0 runs (word_undone d 8) (ap (goes (Word d 8)) ninth) (sym q.1 ∙ place))
+    (stuck_at (Word d 0) (Word d 8) w (rest b) 8 a.position q.0 runs (λ e. cc) (ap (goes (Word d 8)) ninth) (sym q.1 ∙ place))
 
 -- numbers
 
 abbrev zero_led : List ℕ → Bool
 zero_led ds = ltb 1 (length ds) && eqb (get_or ds 0 0) 48
 
-number_fits : (ds : List ℕ) (at : ℕ) → None ≡ number_refusal ds at → (length ds ≤ 7) × (1 < length ds → get_or ds 0 0 ≡ 48 → ⊥)
-number_fits ds at e = cases (zero_led ds) refl e
-  where
-    cases : (t : Bool) → zero_led ds ≡ t → None ≡ cond t (Some (ForbiddenByte (at + 1))) (cond (ltb 7 (length ds)) (Some (LongNumber at)) None) → (length ds ≤ 7) × (1 < length ds → get_or ds 0 0 ≡ 48 → ⊥)
-    cases true h e = absurd (none_some e)
-    cases false h e = (left_out 7 (length ds) (LongNumber at) (sym e), λ l z. grind (arith, nat_tests))
+pub number_fits : (ds : List ℕ) (at : ℕ) → None ≡ number_refusal ds at → (length ds ≤ 7) × (1 < length ds → get_or ds 0 0 ≡ 48 → ⊥)
+number_fits ds at e = (grind (arith, nat_tests), λ l z. grind (arith, nat_tests))
 
-abbrev Overlong : List ℕ → ℕ → Refusal → Type 0
+abbrev pub Overlong : List ℕ → ℕ → Refusal → Type 0
 Overlong ds at y = ((1 < length ds) × (get_or ds 0 0 ≡ 48) × (y ≡ ForbiddenByte (at + 1))) ⊎ ((7 < length ds) × (get_or ds 0 0 ≡ 48 → ⊥) × (y ≡ LongNumber at))
 
-number_overlong : (ds : List ℕ) (at : ℕ) (y : Refusal) → Some y ≡ number_refusal ds at → Overlong ds at y
+pub number_overlong : (ds : List ℕ) (at : ℕ) (y : Refusal) → Some y ≡ number_refusal ds at → Overlong ds at y
 number_overlong ds at y e = cases (zero_led ds) refl e
   where
     cases : (t : Bool) → zero_led ds ≡ t → Some y ≡ cond t (Some (ForbiddenByte (at + 1))) (cond (ltb 7 (length ds)) (Some (LongNumber at)) None) → Overlong ds at y
     cases true h e = inl (grind (arith, nat_tests), grind (arith, nat_tests), some_is e)
     cases false h e = let q = taken 7 (length ds) (sym e) in let long = q.0 in inr (long, (λ z. grind (arith, nat_tests)), sym q.1)
 
-digits_run : (c : ℕ) (cs : List ℕ) (d : ℕ) → kind c ≡ kinds.Digit → AllByRecursion IsDigit cs → length cs ≤ 6 → run (Item d) (c ∷ cs) ≡ Some (Digits d (length (c ∷ cs)))
+digits_run : (c : ℕ) (cs : List ℕ) (d : ℕ) → kind c ≡ kinds.Digit → All IsDigit cs → length cs ≤ 6 → run (Item d) (c ∷ cs) ≡ Some (Digits d (length (c ∷ cs)))
 digits_run c cs d is all h =
     let count : 1 + length cs ≡ length (c ∷ cs) = omega arith in
     run_step (Item d) (Digits d 1) c cs (ap (goes (Item d)) is) ∙ ap (run (Digits d 1)) (sym (append-nil cs)) ∙ run_digits cs d 1 [] all (omega arith) ∙ ap (λ n. Some (Digits d n)) count
@@ -174,11 +161,7 @@ nought_run : (c : ℕ) (d : ℕ) → kind c ≡ kinds.Zero → run (Item d) (c �
 nought_run c d is = run_step (Item d) (Zero d) c [] (ap (goes (Item d)) is)
 
 figure_digit : (c : ℕ) → IsDigit c → (c ≡ 48 → ⊥) → kind c ≡ kinds.Digit
-figure_digit c f n = cases (figure_kind c f)
-  where
-    cases : (kind c ≡ kinds.Zero) ⊎ (kind c ≡ kinds.Digit) → kind c ≡ kinds.Digit
-    cases (inl e) = absurd (n (is_zero c e))
-    cases (inr e) = e
+figure_digit c f n = let k = figure_kind c f in grind (arith, nat_tests)
 
 record Counts (d : ℕ) (ds bs : List ℕ) : Type 0 where
   pub state : State
@@ -187,9 +170,9 @@ record Counts (d : ℕ) (ds bs : List ℕ) : Type 0 where
 
 number_counts : (d : ℕ) (ds bs : List ℕ) → 0 < d → Run IsDigit ds → Ends IsDigit bs → length ds ≤ 7 → (1 < length ds → get_or ds 0 0 ≡ 48 → ⊥) → Counts d ds bs
 number_counts d [] bs h r m long led = absurd (omega (arith, r.0))
-number_counts d (c ∷ cs) bs h r m long led = cases cs (figure_kind c r.1.0) r.1.1 long led
+number_counts d (c ∷ cs) bs h r m long led = cases cs (figure_kind c (All-head IsDigit c cs r.1)) (All-tail IsDigit c cs r.1) long led
   where
-    cases : (cs : List ℕ) → (kind c ≡ kinds.Zero) ⊎ (kind c ≡ kinds.Digit) → AllByRecursion IsDigit cs → length (c ∷ cs) ≤ 7 → (1 < length (c ∷ cs) → c ≡ 48 → ⊥) → Counts d (c ∷ cs) bs
+    cases : (cs : List ℕ) → (kind c ≡ kinds.Zero) ⊎ (kind c ≡ kinds.Digit) → All IsDigit cs → length (c ∷ cs) ≤ 7 → (1 < length (c ∷ cs) → c ≡ 48 → ⊥) → Counts d (c ∷ cs) bs
     cases [] (inl e) all long led = record { state = Zero d; runs = nought_run c d e; settled = nought_settled d bs h }
     cases (b ∷ cs) (inl e) all long led = absurd (led (omega arith) (is_zero c e))
     cases cs (inr e) all long led = record { state = Digits d (length (c ∷ cs)); runs = digits_run c cs d e all (omega arith); settled = digits_settled d (length (c ∷ cs)) bs h m }
@@ -200,7 +183,7 @@ number_stuck d (c ∷ cs) bs start {y} r (inl (long, led, is)) =
     cases (figure_kind (get_or (c ∷ cs) 1 0) (All-get_or IsDigit (c ∷ cs) 1 0 long r.1))
   where
     stuck : (k : Kind) → kind (get_or (c ∷ cs) 1 0) ≡ k → after d k ≡ None → Stuck (Item d) ((c ∷ cs) ++ bs) start y
-    stuck k e none = stuck_at (Item d) (Zero d) (c ∷ cs) bs 1 start long (nought_run c d (ap kind led)) (nought_undone d) (ap (after d) e ∙ none) is
+    stuck k e none = stuck_at (Item d) (Zero d) (c ∷ cs) bs 1 start long (nought_run c d (ap kind led)) (λ e. cc) (ap (after d) e ∙ none) is
 
     cases : (kind (get_or (c ∷ cs) 1 0) ≡ kinds.Zero) ⊎ (kind (get_or (c ∷ cs) 1 0) ≡ kinds.Digit) → Stuck (Item d) ((c ∷ cs) ++ bs) start y
     cases (inl e) = stuck kinds.Zero e refl
@@ -215,11 +198,11 @@ number_stuck d (c ∷ cs) bs start {y} r (inr (long, led, is)) =
     six = length-take-le 6 cs (omega arith)
 
     runs : run (Item d) (take 7 (c ∷ cs)) ≡ Some (Digits d 7)
-    runs = digits_run c (take 6 cs) d (figure_digit c r.1.0 led) (All-take IsDigit 6 cs r.1.1) (omega (arith, six)) ∙ ap (λ n. Some (Digits d n)) (let z : length (c ∷ take 6 cs) ≡ 7 = omega (arith, six) in z)
+    runs = digits_run c (take 6 cs) d (figure_digit c (All-head IsDigit c cs r.1) led) (All-take IsDigit 6 cs (All-tail IsDigit c cs r.1)) (omega (arith, six)) ∙ ap (λ n. Some (Digits d n)) (let z : length (c ∷ take 6 cs) ≡ 7 = omega (arith, six) in z)
 
     cases : (kind (get_or (c ∷ cs) 7 0) ≡ kinds.Zero) ⊎ (kind (get_or (c ∷ cs) 7 0) ≡ kinds.Digit) → Stuck (Item d) ((c ∷ cs) ++ bs) start y
-    cases (inl e) = stuck_at (Item d) (Digits d 7) (c ∷ cs) bs 7 start long runs (digits_undone d 7) (ap (goes (Digits d 7)) e) (is ∙ ap LongNumber back ∙ ap (λ k. refusal_for (fault_of (Digits d 7) k (start + 7))) (sym e))
-    cases (inr e) = stuck_at (Item d) (Digits d 7) (c ∷ cs) bs 7 start long runs (digits_undone d 7) (ap (goes (Digits d 7)) e) (is ∙ ap LongNumber back ∙ ap (λ k. refusal_for (fault_of (Digits d 7) k (start + 7))) (sym e))
+    cases (inl e) = stuck_at (Item d) (Digits d 7) (c ∷ cs) bs 7 start long runs (λ e. cc) (ap (goes (Digits d 7)) e) (is ∙ ap LongNumber back ∙ ap (λ k. refusal_for (fault_of (Digits d 7) k (start + 7))) (sym e))
+    cases (inr e) = stuck_at (Item d) (Digits d 7) (c ∷ cs) bs 7 start long runs (λ e. cc) (ap (goes (Digits d 7)) e) (is ∙ ap LongNumber back ∙ ap (λ k. refusal_for (fault_of (Digits d 7) k (start + 7))) (sym e))
 
 pub item_number : (d : ℕ) {a b : Reader} {t : TokenAt} {x : Bor (List ℕ)} → 0 < d → Past a t b → t.token ≡ tokens.Number x → (r : Result (Unit {0}) Refusal) → refused r ≡ number_refusal x.now t.at → ItemSteps d a r b
 item_number d {a} {b} {t} {x} h p is (Ok u) e =
@@ -256,7 +239,7 @@ pub item_deep : (d : ℕ) {a b : Reader} {t : TokenAt} → 4 ≤ d → Past a t 
 item_deep d {a} {b} {t} h p is =
     let w = went_token p is in
     let none : goes (Item d) kinds.Open ≡ None = cond-false (ltb d 4) (Some (Word (d + 1) 0)) None (le-ltb d 4 h) in
-    stuck_here (Item d) (rest a) a.position (item_undone d) (subst (λ l. Tells (Item d) l a.position (DeepForm t.at)) (sym w.bytes) (none, ap DeepForm p.at))
+    stuck_here (Item d) (rest a) a.position (λ e. cc) (subst (λ l. Tells (Item d) l a.position (DeepForm t.at)) (sym w.bytes) (none, ap DeepForm p.at))
 
 -- items one after another
 
@@ -303,11 +286,3 @@ mark_other {d} {a} {b} {e} {t} g p s c =
 
 pub item_stuck : {d : ℕ} {a b e : Reader} {t : TokenAt} {y : Refusal} → Amid d a b → Past b t e → t.token ≡ tokens.Space → Stuck (Item d) (rest e) e.position y → Stuck (Word d 0) (rest a) a.position y
 item_stuck {d} g p is k = amid_stuck g (stuck_later g.state (Item d) (went_token p is) (run_step g.state (Item d) 32 [] g.settled.space) k)
-
--- the exits of `?`
-
-pub form_break : (d : ℕ) (a b : Reader) (r : Result (Unit {0}) Refusal) (x y : Refusal) → r ≡ Err x → x ≡ y → b.sheet ≡ a.sheet → Stuck (Word d 0) (rest a) a.position y → FormSteps d a r b
-form_break d a b r x y e is same k = subst (λ q. FormSteps d a q b) (sym (e ∙ ap Err is)) (same, k)
-
-pub item_break : (d : ℕ) (a b : Reader) (r : Result (Unit {0}) Refusal) (x y : Refusal) → r ≡ Err x → x ≡ y → b.sheet ≡ a.sheet → Stuck (Item d) (rest a) a.position y → ItemSteps d a r b
-item_break d a b r x y e is same k = subst (λ q. ItemSteps d a q b) (sym (e ∙ ap Err is)) (same, k)

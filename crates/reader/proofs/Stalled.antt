@@ -1,8 +1,9 @@
 -- Readers that go on, and where a run from a state is stuck. Assumes nothing.
 use Rattle.std.proofs.Common.{◌≡◌, ℕ, ◌+◌, ◌⊎◌, List, [], ◌∷◌, ◌++◌, length, Some, sym, refl, ap, ◌∙◌, subst, inl, inr, append_assoc, arith, length-append, Bor}
+use Rattle.std.proofs.lemmas.List.Elements.{All-head}
 use Rattle.grammar.specs.Kinds.{kind}
 use Rattle.grammar.specs.Forms.{IsLetter, IsDigit, Run}
-use Rattle.grammar.specs.States.{State, Start, Word, Item, Zero, Digits, Closed, Done, from, run}
+use Rattle.grammar.specs.States.{State, Start, Word, Item, Closed, Done, from, run}
 use Rattle.grammar.specs.declared.kind.Kind.{Kind}
 use Rattle.grammar.specs.declared.kind.Kind.TheVariants as kinds
 use Rattle.grammar.proofs.Steps.{letter_kind, figure_kind}
@@ -18,9 +19,6 @@ use Rattle.reader.specs.declared.reader.Token.{Token}
 use Rattle.reader.specs.declared.reader.Token.TheVariants as tokens
 
 -- ways on a sheet
-
-pub went_none : (a : Reader) → Went a a []
-went_none a = record { same = refl; to = omega arith; bytes = refl }
 
 pub went_then : {a b e : Reader} {xs ys : List ℕ} → Went a b xs → Went b e ys → Went a e (xs ++ ys)
 went_then {a} {b} {e} {xs} {ys} p q =
@@ -57,36 +55,11 @@ stuck_here t bs start {y} n told =
     let place : start ≡ start + 0 = omega arith in
     record { front = []; left = bs; state = t; split = refl; runs = refl; undone = n; told = subst (λ k. Tells t bs k y) place told }
 
--- the states from which forms are read are not `Done`
-
-pub start_undone : Start ≡ Done → ⊥
-start_undone e = let z : ◌≡◌ {A = ℕ} 0 1 = cc in omega arith
-
-pub word_undone : (d n : ℕ) → Word d n ≡ Done → ⊥
-word_undone d n e = let z : ◌≡◌ {A = ℕ} 0 1 = cc in omega arith
-
-pub item_undone : (d : ℕ) → Item d ≡ Done → ⊥
-item_undone d e = let z : ◌≡◌ {A = ℕ} 0 1 = cc in omega arith
-
-pub nought_undone : (d : ℕ) → Zero d ≡ Done → ⊥
-nought_undone d e = let z : ◌≡◌ {A = ℕ} 0 1 = cc in omega arith
-
-pub digits_undone : (d n : ℕ) → Digits d n ≡ Done → ⊥
-digits_undone d n e = let z : ◌≡◌ {A = ℕ} 0 1 = cc in omega arith
-
-pub closed_undone : (d : ℕ) → Closed d ≡ Done → ⊥
-closed_undone d e = let z : ◌≡◌ {A = ℕ} 0 1 = cc in omega arith
-
 -- where no token begins
 
 other_forbidden : (s : State) → Forbids s kinds.Other
 other_forbidden Start = (refl, λ at. refl)
-other_forbidden (Word d n) = (refl, λ at. refl)
-other_forbidden (Item d) = (refl, λ at. refl)
-other_forbidden (Zero d) = (refl, λ at. refl)
-other_forbidden (Digits d n) = (refl, λ at. refl)
-other_forbidden (Closed d) = (refl, λ at. refl)
-other_forbidden Done = (refl, λ at. refl)
+other_forbidden s = (refl, λ at. refl)
 
 pub forbids_at : (s : State) {k j : Kind} → k ≡ j → Forbids s j → Forbids s k
 forbids_at s e f = subst (Forbids s) (sym e) f
@@ -119,7 +92,7 @@ pub record Heads (t : Token) (bs : List ℕ) : Type 0 where
 
 heads_run : (P : ℕ → Type 0) (t : Token) (w after : List ℕ) → Run P w → ((c : ℕ) → P c → IsKind t (kind c)) → Heads t (w ++ after)
 heads_run P t [] after r f = absurd (omega (arith, r.0))
-heads_run P t (c ∷ w) after r f = record { first = c; others = w ++ after; is = refl; kindly = f c r.1.0 }
+heads_run P t (c ∷ w) after r f = record { first = c; others = w ++ after; is = refl; kindly = f c (All-head P c w r.1) }
 
 pub heads_all : (t : Token) (after : List ℕ) → Maximal t after → Heads t (spells t ++ after)
 heads_all tokens.Open after m = record { first = 40; others = after; is = refl; kindly = refl }
@@ -142,55 +115,37 @@ stuck_token s {a} {b} {t} n p f =
 
 pub start_forbids : (t : Token) (k : Kind) → (t ≡ tokens.Open → ⊥) → IsKind t k → Forbids Start k
 start_forbids tokens.Open k h e = absurd (h refl)
-start_forbids tokens.Close k h e = forbids_at Start e (refl, λ at. refl)
-start_forbids tokens.Space k h e = forbids_at Start e (refl, λ at. refl)
-start_forbids tokens.LineFeed k h e = forbids_at Start e (refl, λ at. refl)
-start_forbids (tokens.Word w) k h e = forbids_at Start e (refl, λ at. refl)
 start_forbids (tokens.Number n) k h (inl e) = forbids_at Start e (refl, λ at. refl)
 start_forbids (tokens.Number n) k h (inr e) = forbids_at Start e (refl, λ at. refl)
+start_forbids t k h e = forbids_at Start e (refl, λ at. refl)
 
 pub word_forbids : (d : ℕ) (t : Token) (k : Kind) → ((x : Bor (List ℕ)) → t ≡ tokens.Word x → ⊥) → IsKind t k → Forbids (Word d 0) k
-word_forbids d tokens.Open k h e = forbids_at (Word d 0) e (refl, λ at. refl)
-word_forbids d tokens.Close k h e = forbids_at (Word d 0) e (refl, λ at. refl)
-word_forbids d tokens.Space k h e = forbids_at (Word d 0) e (refl, λ at. refl)
-word_forbids d tokens.LineFeed k h e = forbids_at (Word d 0) e (refl, λ at. refl)
 word_forbids d (tokens.Word w) k h e = absurd (h w refl)
 word_forbids d (tokens.Number n) k h (inl e) = forbids_at (Word d 0) e (refl, λ at. refl)
 word_forbids d (tokens.Number n) k h (inr e) = forbids_at (Word d 0) e (refl, λ at. refl)
+word_forbids d t k h e = forbids_at (Word d 0) e (refl, λ at. refl)
 
 pub item_forbids : (d : ℕ) (t : Token) (k : Kind) → ((x : Bor (List ℕ)) → t ≡ tokens.Number x → ⊥) → (t ≡ tokens.Open → ⊥) → IsKind t k → Forbids (Item d) k
 item_forbids d tokens.Open k h g e = absurd (g refl)
-item_forbids d tokens.Close k h g e = forbids_at (Item d) e (refl, λ at. refl)
-item_forbids d tokens.Space k h g e = forbids_at (Item d) e (refl, λ at. refl)
-item_forbids d tokens.LineFeed k h g e = forbids_at (Item d) e (refl, λ at. refl)
-item_forbids d (tokens.Word w) k h g e = forbids_at (Item d) e (refl, λ at. refl)
 item_forbids d (tokens.Number n) k h g e = absurd (h n refl)
+item_forbids d t k h g e = forbids_at (Item d) e (refl, λ at. refl)
 
 pub closed_forbids : (t : Token) (k : Kind) → (t ≡ tokens.LineFeed → ⊥) → IsKind t k → Forbids (Closed 0) k
-closed_forbids tokens.Open k h e = forbids_at (Closed 0) e (refl, λ at. refl)
-closed_forbids tokens.Close k h e = forbids_at (Closed 0) e (refl, λ at. refl)
-closed_forbids tokens.Space k h e = forbids_at (Closed 0) e (refl, λ at. refl)
 closed_forbids tokens.LineFeed k h e = absurd (h refl)
-closed_forbids (tokens.Word w) k h e = forbids_at (Closed 0) e (refl, λ at. refl)
 closed_forbids (tokens.Number n) k h (inl e) = forbids_at (Closed 0) e (refl, λ at. refl)
 closed_forbids (tokens.Number n) k h (inr e) = forbids_at (Closed 0) e (refl, λ at. refl)
+closed_forbids t k h e = forbids_at (Closed 0) e (refl, λ at. refl)
 
 -- a token that is no space and no ')' does not begin as one
 
 pub no_space : (t : Token) (k : Kind) → (t ≡ tokens.Space → ⊥) → IsKind t k → k ≡ kinds.Space → ⊥
-no_space tokens.Open k h e f = let z : ◌≡◌ {A = ℕ} 0 1 = cc in omega arith
-no_space tokens.Close k h e f = let z : ◌≡◌ {A = ℕ} 0 1 = cc in omega arith
 no_space tokens.Space k h e f = h refl
-no_space tokens.LineFeed k h e f = let z : ◌≡◌ {A = ℕ} 0 1 = cc in omega arith
-no_space (tokens.Word w) k h e f = let z : ◌≡◌ {A = ℕ} 0 1 = cc in omega arith
-no_space (tokens.Number n) k h (inl e) f = let z : ◌≡◌ {A = ℕ} 0 1 = cc in omega arith
-no_space (tokens.Number n) k h (inr e) f = let z : ◌≡◌ {A = ℕ} 0 1 = cc in omega arith
+no_space (tokens.Number n) k h (inl e) f = cc
+no_space (tokens.Number n) k h (inr e) f = cc
+no_space t k h e f = cc
 
 pub no_close : (t : Token) (k : Kind) → (t ≡ tokens.Close → ⊥) → IsKind t k → k ≡ kinds.Close → ⊥
-no_close tokens.Open k h e f = let z : ◌≡◌ {A = ℕ} 0 1 = cc in omega arith
 no_close tokens.Close k h e f = h refl
-no_close tokens.Space k h e f = let z : ◌≡◌ {A = ℕ} 0 1 = cc in omega arith
-no_close tokens.LineFeed k h e f = let z : ◌≡◌ {A = ℕ} 0 1 = cc in omega arith
-no_close (tokens.Word w) k h e f = let z : ◌≡◌ {A = ℕ} 0 1 = cc in omega arith
-no_close (tokens.Number n) k h (inl e) f = let z : ◌≡◌ {A = ℕ} 0 1 = cc in omega arith
-no_close (tokens.Number n) k h (inr e) f = let z : ◌≡◌ {A = ℕ} 0 1 = cc in omega arith
+no_close (tokens.Number n) k h (inl e) f = cc
+no_close (tokens.Number n) k h (inr e) f = cc
+no_close t k h e f = cc

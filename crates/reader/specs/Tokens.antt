@@ -1,8 +1,7 @@
 -- What a token is of a sheet.
-use Rattle.std.specs.Prelude.{◌≡◌, ℕ, ◌+◌, cond, List, [], ◌∷◌, ◌++◌, length, drop, Ok, Err, Result, ◌==◌}
+use Rattle.std.specs.Prelude.{◌≡◌, ℕ, ◌+◌, List, [], ◌∷◌, ◌++◌, length, drop, Ok, Err, Result}
 use Rattle.grammar.specs.Kinds.{kind}
 use Rattle.grammar.specs.Forms.{Run, Ends, IsLetter, IsDigit}
-use Rattle.grammar.specs.declared.kind.Kind.{Kind}
 use Rattle.grammar.specs.declared.kind.Kind.TheVariants as kinds
 use Rattle.tasks.specs.declared.refusal.Refusal.{Refusal}
 use Rattle.tasks.specs.declared.refusal.Refusal.TheVariants.{ForbiddenByte}
@@ -14,10 +13,6 @@ use Rattle.reader.specs.declared.reader.Token.TheVariants.{Open, Close, Space, L
 -- the bytes from the position on
 abbrev pub rest : Reader → List ℕ
 rest r = drop r.position r.sheet.now
-
--- the kind of a byte, with 0 among the digits
-abbrev pub class : ℕ → Kind
-class c = cond (c == 48) kinds.Digit (kind c)
 
 -- the bytes of a token
 abbrev pub spells : Token → List ℕ

@@ -3,5 +3,5 @@
 
 pub mod reader;
 
-pub use reader::lines::MAX_DIGITS;
+pub use reader::lines::{MAX_DIGITS, check_number};
 pub use reader::{Line, Reader, Token, TokenAt};

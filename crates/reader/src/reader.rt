@@ -13,7 +13,7 @@ pub struct Reader<'a> {
 }
 
 // A word is a run of letters and a number a run of digits, of any length.
-#[derive(Clone, Copy)]
+#[derive(Clone, Copy, PartialEq)]
 pub enum Token<'a> {
     Open,
     Close,

@@ -1,6 +1,6 @@
 -- One granted line after another. Assumes nothing.
-use Rattle.std.proofs.Common.{◌≡◌, ℕ, ◌<◌, List, [], ◌∷◌, ◌++◌, length, None, Ok, Err, Result, sym, refl, ap, ◌∙◌, subst, inl, inr, append_assoc, append-nil, arith, length-append}
-use Rattle.std.specs.List.{AllByRecursion}
+use Rattle.std.proofs.Common.{◌≡◌, ℕ, ◌<◌, List, [], ◌∷◌, ◌++◌, length, None, Err, sym, ap, ◌∙◌, subst, inr, append_assoc, append-nil, arith, length-append}
+use Rattle.std.proofs.lemmas.List.Elements.{All-nil, All-push}
 use Rattle.grammar.specs.Forms.{line}
 use Rattle.fields.specs.Wanted.{value, sheet_form, Written, task_form, IsTask, values_of}
 use Rattle.reader.specs.declared.reader.Reader.{Reader}
@@ -9,7 +9,7 @@ use Rattle.tasks.specs.declared.refusal.Refusal.{Refusal}
 use Rattle.tasks.specs.declared.table.Draft.{Draft}
 use Rattle.tasks.specs.Tasks.{Table, with_task, empty_on}
 use Rattle.tasks.specs.Tables.{drafted, new_draft_refusal, add_refusal}
-use Rattle.sheet.specs.Lines.{FirstRefused, LaterRefused}
+use Rattle.sheet.specs.Lines.{LaterRefused}
 use Rattle.sheet.specs.Sheets.{task_lines, sheet_lines, AllAdded, Granted, place_of, RefusedAfter, Reads}
 use Rattle.sheet.specs.Steps.{CoresRead, TaskRead}
 use Rattle.sheet.proofs.Shortened.{granted_anywhere}
@@ -17,10 +17,6 @@ use Rattle.sheet.proofs.Shortened.{granted_anywhere}
 all_added_more : (table after : Table) (ws : List Written) (w : Written) → AllAdded table ws after → add_refusal 0 after (values_of w) ≡ None → AllAdded table (ws ++ w ∷ []) (with_task after (values_of w))
 all_added_more table after [] w a n = (subst (λ t. add_refusal 0 t (values_of w) ≡ None) a n, ap (λ t. with_task t (values_of w)) a)
 all_added_more table after (v ∷ ws) w a n = (a.0, all_added_more (with_task table (values_of v)) after ws w a.1 n)
-
-all_lawful_more : (ws : List Written) (w : Written) → AllByRecursion IsTask ws → IsTask w → AllByRecursion IsTask (ws ++ w ∷ [])
-all_lawful_more [] w a l = (l, tt)
-all_lawful_more (v ∷ ws) w a l = (a.0, all_lawful_more ws w a.1 l)
 
 task_lines_more : (ws : List Written) (w : Written) → task_lines (ws ++ w ∷ []) ≡ task_lines ws ++ line (task_form w)
 task_lines_more [] w = append-nil (line (task_form w))
@@ -44,7 +40,7 @@ reached_first bs a b e is start c =
         number = c.number;
         cores = subst (λ n. new_draft_refusal n (value c.digits) ≡ None) start c.granted;
         written = [];
-        lawful = tt;
+        lawful = All-nil IsTask;
         added = c.holds;
         is = bytes;
       };
@@ -65,26 +61,12 @@ reached_more bs a b d e r t =
         number = g.number;
         cores = g.cores;
         written = ws ++ t.written ∷ [];
-        lawful = all_lawful_more ws t.written g.lawful t.lawful;
+        lawful = All-push IsTask ws t.written g.lawful t.lawful;
         added = subst (AllAdded (empty_on (value g.digits)) (ws ++ t.written ∷ [])) (sym t.holds) (all_added_more (empty_on (value g.digits)) (drafted d) ws t.written g.added (granted_anywhere a.position 0 (drafted d) (values_of t.written) t.granted));
         is = g.is ∙ ap (λ l. (head ++ task_lines ws) ++ l) t.went.bytes ∙ sym (append_assoc (head ++ task_lines ws) one (rest b)) ∙ ap (λ l. l ++ rest b) (sym longer);
       };
       here = omega (arith, t.went.to, r.here, ap length longer, length-append (head ++ task_lines ws) one);
     }
-
-empty : (l : List ℕ) → length l ≡ 0 → l ≡ []
-empty [] h = refl
-empty (x ∷ l) h = absurd (omega arith)
-
-pub reads_all : (bs : List ℕ) (r : Reader) (d e : Draft) → Reached bs r (drafted e) → length (rest r) ≡ 0 → Reads bs d (Ok tt) e
-reads_all bs r d e h end = subst (Granted bs (drafted e)) (empty (rest r) end) h.granted
-
--- a result that is an error reads as it
-pub reads_err : (bs : List ℕ) (d e : Draft) (r : Result (Unit {0}) Refusal) (x y : Refusal) → r ≡ Err x → x ≡ y → Reads bs d (Err y) e → Reads bs d r e
-reads_err bs d e r x y is same h = subst (λ q. Reads bs d q e) (sym (is ∙ ap Err same)) h
-
-pub reads_first : (bs : List ℕ) (a : Reader) (d e : Draft) (y : Refusal) → rest a ≡ bs → a.position ≡ 0 → (e ≡ d) × FirstRefused a.position (rest a) y → Reads bs d (Err y) e
-reads_first bs a d e y is start h = inl (h.0, subst (λ l. FirstRefused 0 l y) is (subst (λ n. FirstRefused n (rest a) y) start h.1))
 
 pub reads_broken : (bs : List ℕ) (a : Reader) (d was e : Draft) (y : Refusal) → Reached bs a (drafted was) → 0 < length (rest a) → (e ≡ was) × LaterRefused (drafted was) a.position (rest a) y → Reads bs d (Err y) e
 reads_broken bs a d was e y r some h =

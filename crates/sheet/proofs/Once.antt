@@ -1,6 +1,7 @@
 -- Reading a sheet has one outcome: one table, or one refusal and the one table that it leaves. Assumes nothing.
 use Rattle.std.proofs.Common.{◌≡◌, ℕ, ◌+◌, ◌<◌, ◌⊎◌, List, [], ◌∷◌, ◌++◌, length, Some, None, Option, sym, refl, ap, ◌∙◌, subst, inl, inr, append_assoc, arith, length-append}
-use Rattle.std.specs.List.{AllByRecursion}
+use Rattle.std.specs.List.{All}
+use Rattle.std.proofs.lemmas.List.Elements.{All-head, All-tail}
 use Rattle.grammar.specs.Forms.{Form, Lawful, line}
 use Rattle.grammar.specs.Faults.{Leads}
 use Rattle.grammar.proofs.Steps.{some_is, none_some}
@@ -115,7 +116,7 @@ one_end table at bs (Some y) (Some z) a b = one_verdict task_form task_same (tas
 
 -- where a granted line stands, the reading does not end
 no_end : (table : Table) (at : ℕ) (bs : List ℕ) (o : Option Refusal) → Stands task_form (task_reason table) at bs None → Ends table at bs o → ⊥
-no_end table at bs None s e = let never : [] ≡ line (task_form s.of) ++ s.tail = sym e ∙ s.is in let z : ◌≡◌ {A = ℕ} 0 1 = cc in omega arith
+no_end table at bs None s e = let never : [] ≡ line (task_form s.of) ++ s.tail = sym e ∙ s.is in cc
 no_end table at bs (Some y) s e = not_refused task_form task_same (task_reason table) at bs y s (later_verdict table at bs y e.1)
 
 one_walk : (table : Table) (at : ℕ) (bs : List ℕ) (o p : Option Refusal) (t u : Table) → Walk table at bs o t → Walk table at bs p u → (o ≡ p) × (t ≡ u)
@@ -127,7 +128,7 @@ one_walk table at bs o p t u (goes s g) (goes r h) =
     one_walk _ _ _ o p t u g (carried (λ w tail. Walk (with_task table (values_of w)) (at + length (line (task_form w))) tail p u) same h)
 
 -- granted lines are walked to where they end
-walked : (ws : List Written) (table : Table) (at : ℕ) (left : List ℕ) (o : Option Refusal) (after : Table) (end : ℕ) → AllByRecursion IsTask ws → AllAdded table ws after → end ≡ at + length (task_lines ws) → Ends after end left o → Walk table at (task_lines ws ++ left) o after
+walked : (ws : List Written) (table : Table) (at : ℕ) (left : List ℕ) (o : Option Refusal) (after : Table) (end : ℕ) → All IsTask ws → AllAdded table ws after → end ≡ at + length (task_lines ws) → Ends after end left o → Walk table at (task_lines ws ++ left) o after
 walked [] table at left o after end l a here e =
     let start : end ≡ at = omega arith in
     ends (subst (λ n. Ends table n left o) start (subst (λ t. Ends t end left o) a e)) a
@@ -135,8 +136,8 @@ walked (w ∷ ws) table at left o after end l a here e =
     let one = line (task_form w) in
     let there : end ≡ at + length one + length (task_lines ws) = omega (arith, length-append one (task_lines ws)) in
     goes
-    (record { of = w; lawful = task_lawful w l.0; tail = task_lines ws ++ left; is = append_assoc one (task_lines ws) left; told = granted_anywhere 0 at table (values_of w) a.0 })
-    (walked ws (with_task table (values_of w)) (at + length one) left o after end l.1 a.1 there e)
+    (record { of = w; lawful = task_lawful w (All-head IsTask w ws l); tail = task_lines ws ++ left; is = append_assoc one (task_lines ws) left; told = granted_anywhere 0 at table (values_of w) a.0 })
+    (walked ws (with_task table (values_of w)) (at + length one) left o after end (All-tail IsTask w ws l) a.1 there e)
 
 -- The whole sheet.
 

@@ -1,14 +1,13 @@
 -- A task line is kept with the first seventeen numbers of each list; a table takes it as if it had them all.
 -- Assumes nothing.
-use Rattle.std.proofs.Common.{◌≡◌, ℕ, ◌≤◌, Bool, true, false, cond, not, ◌&&◌, ltb, leb, length, take, Some, None, Ok, Err, Option, Result, sym, refl, ap, ◌∙◌, arith}
+use Rattle.std.proofs.Common.{◌≡◌, ℕ, ◌≤◌, Bool, true, false, cond, not, ltb, leb, length, take, Some, None, Ok, Err, Result, sym, refl, ap, ◌∙◌, arith}
 use Rattle.std.proofs.lemmas.List.{length-take-le, take_all}
-use Rattle.std.proofs.lemmas.Bool.{and_right}
 use Rattle.std.proofs.lemmas.Bool.Decides.{nat_tests}
 use Rattle.span.specs.Spans.{span_of}
 use Rattle.tasks.specs.declared.refusal.Refusal.{Refusal}
 use Rattle.tasks.specs.declared.refusal.Refusal.TheVariants.{OutOfRange, IdTaken, TableFull, LongSpan}
 use Rattle.tasks.specs.declared.table.Draft.{Draft}
-use Rattle.tasks.specs.Tasks.{Task, Table, between, every, points_match, in_range, has_id, periods, inserted, with_task}
+use Rattle.tasks.specs.Tasks.{Task, Table, points_match, in_range, has_id, periods, inserted, with_task}
 use Rattle.tasks.specs.Tables.{drafted, add_refusal, Adds}
 
 -- the task with its lists cut off
@@ -16,31 +15,19 @@ abbrev pub shortened : Task → Task
 shortened x = record { id = x.id; period = x.period; deadline = x.deadline; blocks = take 17 x.blocks; points = take 17 x.points }
 
 same_short : (x : Task) → length x.blocks ≤ 17 → length x.points ≤ 17 → shortened x ≡ x
-same_short x b p =
-    ap (λ l. record { id = x.id; period = x.period; deadline = x.deadline; blocks = l; points = take 17 x.points }) (take_all 17 x.blocks b)
-    ∙ ap (λ l. record { id = x.id; period = x.period; deadline = x.deadline; blocks = x.blocks; points = l }) (take_all 17 x.points p)
-
--- a task whose points do not go with its blocks is out of range
-points_differ : (x : Task) → points_match x ≡ false → in_range x ≡ false
-points_differ x e =
-    let last = every (between 1 1000000) x.blocks && every (between 0 1000000) x.points in
-    and_right (between 1 9999999 x.id) _ (and_right (between 1 1000000 x.period) _ (and_right (between 1 x.period x.deadline) _ (ap (λ b. b && last) e)))
-
-points_match_lem : (x : Task) → in_range x ≡ true → points_match x ≡ true
-points_match_lem x h = cases (points_match x) refl
-  where
-    cases : (b : Bool) → points_match x ≡ b → points_match x ≡ true
-    cases true e = e
-    cases false e = let never : false ≡ true = sym (points_differ x e) ∙ h in grind (arith, nat_tests, never)
+same_short x b p = rw (take_all 17 x.blocks b, take_all 17 x.points p)
 
 many_blocks : (x : Task) → 17 ≤ length x.blocks → in_range x ≡ false
-many_blocks x h = points_differ x (grind (arith, nat_tests))
+many_blocks x h = grind (arith, nat_tests)
 
 many_points : (x : Task) → 17 ≤ length x.points → in_range x ≡ false
-many_points x h = points_differ x (grind (arith, nat_tests))
+many_points x h = grind (arith, nat_tests)
+
+points_match_lem : (x : Task) → in_range x ≡ true → points_match x ≡ true
+points_match_lem x h = grind (arith, nat_tests)
 
 pub whole : (x : Task) → in_range x ≡ true → shortened x ≡ x
-whole x h = let w = points_match_lem x h in same_short x (grind (arith, nat_tests)) (grind (arith, nat_tests))
+whole x h = same_short x (grind (arith, nat_tests)) (grind (arith, nat_tests))
 
 range_short : (x : Task) → in_range (shortened x) ≡ in_range x
 range_short x = blocks (leb (length x.blocks) 17) refl
@@ -57,26 +44,15 @@ range_short x = blocks (leb (length x.blocks) 17) refl
         let long : 17 ≤ length x.blocks = grind (arith, nat_tests) in
         many_blocks (shortened x) (omega (arith, length-take-le 17 x.blocks long)) ∙ sym (many_blocks x long)
 
--- the conditions after the ranges
-abbrev others : ℕ → Table → Task → Option Refusal
-others at table x =
-    cond (has_id x.id table.tasks) (Some (IdTaken at)) (cond (leb 24 (length table.tasks)) (Some (TableFull at)) (cond (ltb 1000000 (span_of (periods (inserted x table.tasks)))) (Some (LongSpan at)) None))
-
 pub refused_short : (at : ℕ) (table : Table) (x : Task) → add_refusal at table (shortened x) ≡ add_refusal at table x
 refused_short at table x = cases (in_range x) refl
   where
     cases : (b : Bool) → in_range x ≡ b → add_refusal at table (shortened x) ≡ add_refusal at table x
     cases true e = ap (add_refusal at table) (whole x e)
-    cases false e =
-        ap (λ b. cond (not b) (Some (OutOfRange at)) (others at table (shortened x))) (range_short x ∙ e)
-        ∙ sym (ap (λ b. cond (not b) (Some (OutOfRange at)) (others at table x)) e)
+    cases false e = let short = range_short x in grind (arith, nat_tests)
 
 granted_range : (at : ℕ) (table : Table) (x : Task) → add_refusal at table x ≡ None → in_range x ≡ true
-granted_range at table x e = cases (in_range x) refl
-  where
-    cases : (b : Bool) → in_range x ≡ b → in_range x ≡ true
-    cases true h = h
-    cases false h = let never : Some (OutOfRange at) ≡ None = sym (ap (λ b. cond (not b) (Some (OutOfRange at)) (others at table x)) h) ∙ e in let z : ◌≡◌ {A = ℕ} 0 1 = cc in absurd (omega arith)
+granted_range at table x e = grind (arith, nat_tests)
 
 -- what adding the shortened task did, adding the whole one does
 pub adds_whole : (at : ℕ) (d e : Draft) (x : Task) (r : Result (Unit {0}) Refusal) → Adds at d (shortened x) r e → Adds at d x r e
@@ -87,11 +63,8 @@ adds_whole at d e x (Err y) h = (sym (refused_short at (drafted d) x) ∙ h.0, h
 
 -- where nothing refuses a task, nothing does at another place
 none_at : (a b c d : Bool) (m n : ℕ) → cond a (Some (OutOfRange m)) (cond b (Some (IdTaken m)) (cond c (Some (TableFull m)) (cond d (Some (LongSpan m)) None))) ≡ None → cond a (Some (OutOfRange n)) (cond b (Some (IdTaken n)) (cond c (Some (TableFull n)) (cond d (Some (LongSpan n)) None))) ≡ None
-none_at true b c d m n e = let z : ◌≡◌ {A = ℕ} 0 1 = cc in absurd (omega arith)
-none_at false true c d m n e = let z : ◌≡◌ {A = ℕ} 0 1 = cc in absurd (omega arith)
-none_at false false true d m n e = let z : ◌≡◌ {A = ℕ} 0 1 = cc in absurd (omega arith)
-none_at false false false true m n e = let z : ◌≡◌ {A = ℕ} 0 1 = cc in absurd (omega arith)
 none_at false false false false m n e = refl
+none_at a b c d m n e = cc
 
 pub granted_anywhere : (m n : ℕ) (table : Table) (x : Task) → add_refusal m table x ≡ None → add_refusal n table x ≡ None
 granted_anywhere m n table x e =

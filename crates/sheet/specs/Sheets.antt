@@ -1,6 +1,6 @@
 -- What reading a sheet into a draft tells, in terms of the lines that stand in it.
 use Rattle.std.specs.Prelude.{◌≡◌, ℕ, ◌<◌, ◌⊎◌, List, [], ◌∷◌, ◌++◌, length, None, Ok, Err, Result}
-use Rattle.std.specs.List.{AllByRecursion}
+use Rattle.std.specs.List.{All}
 use Rattle.grammar.specs.Forms.{line, IsNumber}
 use Rattle.fields.specs.Wanted.{value, sheet_form, Written, task_form, IsTask, values_of}
 use Rattle.tasks.specs.declared.refusal.Refusal.{Refusal}
@@ -30,7 +30,7 @@ pub record Granted (bs : List ℕ) (table : Table) (left : List ℕ) : Type 0 wh
   pub number : IsNumber digits
   pub cores : new_draft_refusal 0 (value digits) ≡ None
   pub written : List Written
-  pub lawful : AllByRecursion IsTask written
+  pub lawful : All IsTask written
   pub added : AllAdded (empty_on (value digits)) written table
   pub is : bs ≡ sheet_lines digits written ++ left
 

@@ -24,10 +24,8 @@ fn read_cores(reader: &mut Reader<'_>, draft: &mut Draft) -> Result<(), Refusal>
     ensures { FirstSteps reader.old draft.old result reader.new draft.new }
 {
     let line = reader.read_line()?;
-    match cores_of(line.bytes) {
-        Some(cores) => draft.new_draft_at(line.at, cores),
-        None => Err(Refusal::WrongFields { at: line.at }),
-    }
+    let cores = cores_of(line.bytes).ok_or(Refusal::WrongFields { at: line.at })?;
+    draft.new_draft_at(line.at, cores)
 }
 
 // A later line: `(task (id N) (period N) (deadline N) (blocks N*) (points N*))`.
@@ -35,15 +33,7 @@ fn read_task(reader: &mut Reader<'_>, draft: &mut Draft) -> Result<(), Refusal>
     ensures { LaterSteps reader.old draft.old result reader.new draft.new }
 {
     let line = reader.read_line()?;
-    let Some(task) = task_of(line.bytes) else {
-        return Err(Refusal::WrongFields { at: line.at });
-    };
-    let proposal = Proposal {
-        id: task.id,
-        period: task.period,
-        deadline: task.deadline,
-        blocks: task.blocks.as_slice(),
-        points: task.points.as_slice(),
-    };
+    let task = task_of(line.bytes).ok_or(Refusal::WrongFields { at: line.at })?;
+    let proposal = Proposal::from(&task);
     draft.add_at(line.at, &proposal)
 }

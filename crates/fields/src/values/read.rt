@@ -1,13 +1,13 @@
 ghost use Rattle.std.specs.Prelude.{◌≡◌, [], ◌∷◌};
 ghost use Rattle.grammar.specs.Forms.{Run, IsDigit, IsWord, IsNumber};
-ghost use Rattle.reader.specs.Tokens.{rest};
+ghost use Rattle.reader.specs.Tokens.{rest, spells};
 ghost use Rattle.fields.specs.Wanted.{AreNumbers};
 ghost use Rattle.fields.specs.Values.{CoresOf, TaskOf};
-ghost use Rattle.fields.specs.Pieces.{TakesToken, Passes, PassesWord, ValueOf, TakesNumber, Takes, HasValue, HasValues, field_bytes, numbers_bytes, list_bytes, Finishes};
+ghost use Rattle.fields.specs.Pieces.{IsMark, TakesToken, Passes, PassesWord, ValueOf, TakesNumber, Takes, HasValue, HasValues, field_bytes, numbers_bytes, list_bytes, Finishes};
 
 use crate::values::{KEPT, TaskLine};
 use bounded::Bounded;
-use reader::{MAX_DIGITS, Reader, Token};
+use reader::{Reader, Token, check_number};
 
 // The cores of a line `(sheet (cores N))`.
 pub fn cores_of(line: &[u8]) -> Option<u32>
@@ -46,18 +46,8 @@ fn number_of(digits: &[u8]) -> Option<u32>
     requires { Run IsDigit digits.now }
     ensures { ValueOf digits.now result }
 {
-    if digits.len() > MAX_DIGITS {
-        return None;
-    }
-    // only the number 0 begins with 0
-    if digits.len() > 1 && digits[0] == b'0' {
-        return None;
-    }
-    let mut value = 0u32;
-    for digit in digits {
-        value = value * 10 + u32::from(*digit - b'0');
-    }
-    Some(value)
+    check_number(digits, 0).ok()?;
+    str::from_utf8(digits).ok()?.parse().ok()
 }
 
 // The tokens of a line that are left to read. Each method goes past what it names,
@@ -80,44 +70,28 @@ impl<'a> Fields<'a> {
     fn token(&mut self) -> Option<Token<'a>>
         ensures { TakesToken (rest self.old.reader) result (rest self.new.reader) }
     {
-        match self.reader.next() {
-            Ok(next) => Some(next.token),
-            Err(_) => None,
-        }
+        self.reader.next().ok().map(|next| next.token)
     }
 
-    // A space.
-    fn space(&mut self) -> Option<()>
-        ensures { Passes (32 ∷ []) (rest self.old.reader) result (rest self.new.reader) }
+    // That token, which is one byte.
+    fn mark(&mut self, wanted: Token) -> Option<()>
+        requires { IsMark wanted }
+        ensures { Passes (spells wanted.entry) (rest self.old.reader) result (rest self.new.reader) }
     {
-        match self.token()? {
-            Token::Space => Some(()),
-            _ => None,
-        }
+        (self.token()? == wanted).then_some(())
     }
 
-    // The end of a form.
-    fn closes(&mut self) -> Option<()>
-        ensures { Passes (41 ∷ []) (rest self.old.reader) result (rest self.new.reader) }
-    {
-        match self.token()? {
-            Token::Close => Some(()),
-            _ => None,
-        }
-    }
-
-    // The start of the form of that name.
+    // The start of the form of that name. A name is a literal of the callers, so that the check finds at each call that it is a
+    // word: a type for names would only be built there, and taken apart here.
     fn opens(&mut self, name: &[u8]) -> Option<()>
         requires { IsWord name.now }
         ensures { PassesWord (40 ∷ name.now) (rest self.old.reader) result (rest self.new.reader) }
     {
-        let Token::Open = self.token()? else {
-            return None;
-        };
+        self.mark(Token::Open)?;
         let Token::Word(letters) = self.token()? else {
             return None;
         };
-        if letters == name { Some(()) } else { None }
+        (letters == name).then_some(())
     }
 
     // A space, and the start of the form of that name.
@@ -125,7 +99,7 @@ impl<'a> Fields<'a> {
         requires { IsWord name.now }
         ensures { PassesWord (32 ∷ 40 ∷ name.now) (rest self.old.reader) result (rest self.new.reader) }
     {
-        self.space()?;
+        self.mark(Token::Space)?;
         self.opens(name)
     }
 
@@ -163,9 +137,9 @@ impl<'a> Fields<'a> {
         ensures { Takes (field_bytes name.now) IsNumber HasValue (rest self.old.reader) result (rest self.new.reader) }
     {
         self.nests(name)?;
-        self.space()?;
+        self.mark(Token::Space)?;
         let n = self.number()?;
-        self.closes()?;
+        self.mark(Token::Close)?;
         Some(n)
     }
 
@@ -182,10 +156,8 @@ impl<'a> Fields<'a> {
     fn ends(&mut self) -> Option<()>
         ensures { Finishes (rest self.old.reader) result }
     {
-        self.closes()?;
-        let Token::LineFeed = self.token()? else {
-            return None;
-        };
-        if self.reader.at_end() { Some(()) } else { None }
+        self.mark(Token::Close)?;
+        self.mark(Token::LineFeed)?;
+        self.reader.at_end().then_some(())
     }
 }

@@ -28,17 +28,15 @@ fn check_word(letters: &[u8], at: usize) -> Result<(), Refusal>
 }
 
 // Refuses a digit after a leading 0, or else the whole number at its start if it is too long.
-fn check_number(digits: &[u8], at: usize) -> Result<(), Refusal>
+pub fn check_number(digits: &[u8], at: usize) -> Result<(), Refusal>
     requires { at + length digits.now < 2 ^ 64 }
     ensures { refused result ≡ number_refusal digits.now at }
 {
-    if digits.len() > 1 && digits[0] == b'0' {
-        return Err(Refusal::ForbiddenByte { at: at + 1 });
+    match digits {
+        [b'0', _, ..] => Err(Refusal::ForbiddenByte { at: at + 1 }),
+        _ if digits.len() > MAX_DIGITS => Err(Refusal::LongNumber { at }),
+        _ => Ok(()),
     }
-    if digits.len() > MAX_DIGITS {
-        return Err(Refusal::LongNumber { at });
-    }
-    Ok(())
 }
 
 impl<'a> Reader<'a> {

@@ -1,35 +1,29 @@
-ghost use Rattle.std.specs.Prelude.{◌≡◌, ◌≤◌, length, take, drop, ◌==◌};
-ghost use Rattle.grammar.specs.Forms.{Ends};
-ghost use Rattle.std.specs.List.{AllByRecursion};
-ghost use Rattle.reader.specs.Tokens.{rest, class, spells, TokenSteps};
+ghost use Rattle.std.specs.Prelude.{◌≡◌, ◌≤◌, ℕ, Bool, length, ◌==◌};
+ghost use Rattle.std.specs.Char.{is_ascii_digit};
+ghost use Rattle.std.specs.Fn.{FnReturnsAt};
+ghost use Rattle.std.specs.List.{before_first};
+ghost use Rattle.reader.specs.Tokens.{rest, spells, TokenSteps};
 
 use crate::reader::{Reader, Token, TokenAt};
 use grammar::kind::Kind;
 use grammar::kind::classify::kind_of;
 use tasks::Refusal;
 
-// The kind of a byte, with 0 among the digits.
-fn class_of(byte: u8) -> Kind
-    ensures { result ≡ class byte }
+// The bytes in front of the first that passes the test.
+fn front<F: Fn(&u8) -> bool>(bytes: &[u8], test: F) -> &[u8]
+    requires { (f : _) (x : _) → F.pre f x }
+    ensures within { length result.now ≤ length bytes.now }
+    ensures value { (p : ℕ → Bool) → ((x : ℕ) (b : Bool) → FnReturnsAt F.Fn test x b → b ≡ p x) → result.now ≡ before_first p bytes.now }
 {
-    if byte == b'0' {
-        Kind::Digit
-    } else {
-        kind_of(byte as char)
-    }
+    let len = bytes.iter().position(test).unwrap_or(bytes.len());
+    &bytes[..len]
 }
 
-// How many bytes at the front are of one kind.
-fn run_len(bytes: &[u8], kind: Kind) -> usize
-    ensures within { result ≤ length bytes.now }
-    ensures all { AllByRecursion (λ c. class c ≡ kind) (take result bytes.now) }
-    ensures stops { Ends (λ c. class c ≡ kind) (drop result bytes.now) }
+// Whether the character may stand in a number.
+fn is_digit(c: char) -> bool
+    ensures { result ≡ is_ascii_digit c }
 {
-    let mut n = 0;
-    while n < bytes.len() && class_of(bytes[n]) == kind {
-        n += 1;
-    }
-    n
+    matches!(kind_of(c), Kind::Zero | Kind::Digit)
 }
 
 // How many bytes a token takes.
@@ -37,8 +31,7 @@ fn width(token: &Token) -> usize
     ensures { result ≡ length (spells token.now) }
 {
     match token {
-        Token::Word(letters) => letters.len(),
-        Token::Number(digits) => digits.len(),
+        Token::Word(run) | Token::Number(run) => run.len(),
         _ => 1,
     }
 }
@@ -60,23 +53,28 @@ impl<'a> Reader<'a> {
     }
 
     // The next token. The reader stays where no token begins.
+    // It is no `Iterator`: a sheet's end is a refusal with its place, as a wrong byte is, and no `None`.
     pub fn next(&mut self) -> Result<TokenAt<'a>, Refusal>
         ensures { TokenSteps self.old result self.new }
     {
         let at = self.position;
         let sheet = self.sheet;
         let tail = &sheet[at..];
-        if tail.is_empty() {
+        let Some(first) = tail.first() else {
             return Err(Refusal::ForbiddenByte { at });
-        }
-        let kind = kind_of(tail[0] as char);
-        let token = match kind {
+        };
+        let token = match kind_of(char::from(*first)) {
             Kind::Open => Token::Open,
             Kind::Close => Token::Close,
             Kind::Space => Token::Space,
             Kind::LineFeed => Token::LineFeed,
-            Kind::Letter => Token::Word(&tail[0..run_len(tail, Kind::Letter)]),
-            Kind::Zero | Kind::Digit => Token::Number(&tail[0..run_len(tail, Kind::Digit)]),
+            Kind::Letter => Token::Word(front(
+                tail,
+                |byte| kind_of(char::from(*byte)) != Kind::Letter,
+            )),
+            Kind::Zero | Kind::Digit => {
+                Token::Number(front(tail, |byte| !is_digit(char::from(*byte))))
+            }
             Kind::Other => return Err(Refusal::ForbiddenByte { at }),
         };
         self.position = at + width(&token);

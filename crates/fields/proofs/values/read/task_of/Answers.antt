@@ -1,12 +1,9 @@
 use Rattle.std.proofs.Common.{sym, ◌∙◌}
-use Rattle.fields.proofs.Lines.{task_word, task_id, task_period, task_deadline, task_blocks, task_points, task_end, task_took}
+use Rattle.fields.proofs.Lines.{task_word, task_period, task_deadline, task_blocks, task_points, task_end, task_took}
 use Rattle.fields.proofs.values.read.task_of.Goals as goal
 
 pub returns-in_err-opens : goal.returns-in_err-opens
 returns-in_err-opens c = rw c.from_residual.ensures (task_word _ (λ t h e. c.in_err-opens.ensures t h (c.new-fields.ensures ∙ e)))
-
-pub returns-in_err-id : goal.returns-in_err-id
-returns-in_err-id c = rw c.from_residual-in_err-id.ensures (task_id _ _ (sym c.new-fields.ensures ∙ c.in_ok-opens.ensures) c.in_err-id.ensures)
 
 pub returns-in_err-period : goal.returns-in_err-period
 returns-in_err-period c =

@@ -1,8 +1,5 @@
-use Rattle.fields.proofs.Tokens.{number-none, number_other, number_taken}
+use Rattle.fields.proofs.Tokens.{number_other, number_taken}
 use Rattle.fields.proofs.values.read.Fields.number.Goals as goal
-
-pub returns-in_err-digits : goal.returns-in_err-digits
-returns-in_err-digits c = rw c.from_residual.ensures (number-none _ c.in_err-digits.ensures)
 
 pub returns-in-Number : goal.returns-in-Number
 returns-in-Number c = number_taken c.in-Number.digits c.number_of.result c.in_ok-digits.ensures c.in-Number.is c.number_of.ensures

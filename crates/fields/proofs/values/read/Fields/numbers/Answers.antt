@@ -1,4 +1,3 @@
-use Rattle.std.proofs.Common.{◌≡◌, ℕ, arith}
 use Rattle.reader.specs.declared.reader.Token.TheVariants.{Close, Space}
 use Rattle.fields.proofs.Tokens.{next_token, token_is, no_mark}
 use Rattle.fields.proofs.Counted.{sofar_none, numbers_stop, numbers_end, numbers_none, number_shorter, sofar_more}
@@ -10,7 +9,7 @@ loop-held-init c = sofar_none _ _ c.new-held.ensures
 pub returns-in_err-token : goal.returns-in_err-token
 returns-in_err-token c =
     let n = c.in_err-token.ensures in
-    rw c.from_residual.ensures (numbers_stop _ _ _ c.loop-held.invariant (no_mark n 32 (λ e. let z : ◌≡◌ {A = ℕ} 0 1 = cc in omega arith)) (no_mark n 41 (λ e. let z : ◌≡◌ {A = ℕ} 0 1 = cc in omega arith)))
+    rw c.from_residual.ensures (numbers_stop _ _ _ c.loop-held.invariant (no_mark n 32 (λ e. cc)) (no_mark n 41 (λ e. cc)))
 
 pub returns-in-Close : goal.returns-in-Close
 returns-in-Close c = numbers_end _ _ _ c.loop-held.invariant _ (token_is c.in_ok-token.ensures Close c.in-Close.is)
@@ -24,7 +23,7 @@ loop-held-smaller c = number_shorter _ _ _ c.loop-held.invariant _ (token_is c.i
 
 pub loop-held-preserved : goal.loop-held-preserved
 loop-held-preserved c =
-    sofar_more _ _ _ c.loop-held.invariant _ (token_is c.in_ok-token.ensures Space c.in-Space.is) _ _ c.in_ok-n-in-Space.ensures _ c.push.result c.push.ensures.test c.push.ensures.items
+    sofar_more _ _ _ c.loop-held.invariant _ (token_is c.in_ok-token.ensures Space c.in-Space.is) _ _ c.in_ok-n-in-Space.ensures _ c.push.result c.push.ensures.variant c.push.ensures.ok c.push.ensures.err
 
 pub returns-in_default : goal.returns-in_default
 returns-in_default c =

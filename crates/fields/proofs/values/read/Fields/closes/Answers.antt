@@ -1,5 +1,0 @@
-use Rattle.fields.proofs.Tokens.{next_token}
-use Rattle.fields.proofs.values.read.Fields.closes.Goals as goal
-
-pub returns-in_default : goal.returns-in_default
-returns-in_default c = λ t e. c.in_default.not-Close (next_token 41 t c.in_ok-token.ensures e)
