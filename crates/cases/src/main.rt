@@ -2,29 +2,12 @@
 #![tactic(auto)]
 
 use anyhow::anyhow;
-use press::{MAX_LINE, MAX_SHEET, answer};
-use std::io::{Read, Write};
-use std::{env, fs};
-
-fn tell(rt: &HostRuntime, name: &str) -> anyhow::Result<()> {
-    let path = format!(in rt.alloc(); "{name}.sheet")?;
-    let mut sheet = Vec::new(rt.alloc());
-    fs::open(rt, path.as_str())?
-        .take(MAX_SHEET)
-        .read_to_end(&mut sheet)?;
-    let mut line = [0; MAX_LINE];
-    match answer(sheet.as_slice(), &mut line) {
-        Ok(len) => {
-            print!(rt; "{name}: ")?;
-            Ok(rt.stdout().write_all(&line[0..len])?)
-        }
-        Err(_) => Err(anyhow!("the line does not fit its buffer")),
-    }
-}
+use console::write_named;
+use press::{MAX_LINE, answer};
 
 fn main(rt: HostRuntime) -> anyhow::Result<()> {
-    for name in env::args(&rt)?.skip(1) {
-        tell(&rt, name.as_str())?;
-    }
-    Ok(())
+    let told = |sheet: &[u8], line: &mut [u8]| {
+        answer(sheet, line).map_err(|_| anyhow!("the line does not fit its buffer"))
+    };
+    write_named(&rt, told, &mut [0; MAX_LINE], &mut rt.stdout())
 }

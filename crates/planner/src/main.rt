@@ -2,15 +2,15 @@
 #![tactic(auto)]
 
 use anyhow::anyhow;
-use press::{MAX_LINE, MAX_SHEET, answer};
-use std::io::{Read, Write};
+use console::read_front;
+use press::{MAX_LINE, answer};
+use std::io::Write;
 
 fn main(rt: HostRuntime) -> anyhow::Result<()> {
-    let mut sheet = Vec::new(rt.alloc());
-    rt.stdin().take(MAX_SHEET).read_to_end(&mut sheet)?;
+    let sheet = read_front(rt.alloc(), rt.stdin())?;
     let mut line = [0; MAX_LINE];
-    match answer(sheet.as_slice(), &mut line) {
-        Ok(len) => Ok(rt.stdout().write_all(&line[0..len])?),
-        Err(_) => Err(anyhow!("the line does not fit its buffer")),
-    }
+    let len = answer(sheet.as_slice(), &mut line).map_err(|_| anyhow!(
+        "the line does not fit its buffer"
+    ))?;
+    Ok(rt.stdout().write_all(&line[..len])?)
 }

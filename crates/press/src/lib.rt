@@ -6,7 +6,7 @@ ghost use Rattle.press.specs.Answers.{Answers};
 use sheet::read_sheet;
 use tasks::{Draft, Refusal};
 pub use writer::MAX_LINE;
-use writer::{write_refusal, write_table};
+use writer::write;
 
 // How much of its input a program hands over; what lies beyond is not seen.
 pub const MAX_SHEET: u64 = 65_536;
@@ -17,7 +17,7 @@ pub fn answer(sheet: &[u8], out: &mut [u8]) -> Result<usize, Refusal>
 {
     let mut draft = Draft::new();
     match read_sheet(sheet, &mut draft) {
-        Ok(()) => write_table(&draft.seal(), out),
-        Err(refusal) => write_refusal(&refusal, out),
+        Ok(()) => write(&draft.seal(), out),
+        Err(refusal) => write(&refusal, out),
     }
 }

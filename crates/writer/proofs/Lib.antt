@@ -1,1 +1,1 @@
-pub mod Appends
+pub mod Written

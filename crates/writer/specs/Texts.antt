@@ -13,3 +13,10 @@ text_of t = list_of t.bytes
 abbrev pub Writes : List ℕ → List ℕ → Result ℕ Refusal → List ℕ → Type 0
 Writes bs out (Ok n) after = (n ≡ length bs) × (length bs ≤ length out) × (after ≡ bs ++ drop (length bs) out)
 Writes bs out (Err y) after = (y ≡ ShortBuffer (length bs)) × (length out < length bs) × (after ≡ out)
+
+-- the text is the only one that tells of something, and it is written unless the buffer is too short for it
+pub record WritesOnly (Tells : List ℕ → Type 0) (out : List ℕ) (r : Result ℕ Refusal) (after : List ℕ) : Type 0 where
+  pub text : List ℕ
+  pub tells : Tells text
+  pub only : (other : List ℕ) → Tells other → other ≡ text
+  pub writes : Writes text out r after

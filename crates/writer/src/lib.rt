@@ -1,8 +1,10 @@
-// Lines of text, written into a buffer that the caller lends.
+// Texts, written into a buffer that the caller lends.
 #![tactic(auto)]
 
 mod lines;
+mod tell;
 mod text;
 
-pub use lines::{MAX_LINE, write_refusal, write_table};
+pub use lines::MAX_LINE;
+pub use tell::{Tell, write};
 pub use text::Text;
