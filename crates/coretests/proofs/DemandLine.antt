@@ -1,14 +1,14 @@
 -- A line above the demand, where the work of one span is less than the span. Assumes nothing.
-use Rattle.std.proofs.Common.{◌≡◌, ℕ, ◌+◌, ◌-◌, ◌*◌, ◌/◌, ◌%◌, ◌<◌, ◌≤◌, true, List, [], ◌∷◌, sum_by, sym, ap, ◌∙◌, mul_comm, div-lt_iff_lt-mul, add-mul, mul-le-mul_left, mul-add, div-le_self, arith}
+use Rattle.std.proofs.Common.{◌≡◌, ℕ, ◌+◌, ◌-◌, ◌*◌, ◌/◌, ◌%◌, ◌<◌, ◌≤◌, true, List, [], ◌∷◌, sum_by, sym, ap, ◌∙◌, mul_comm, div-lt_iff_lt-mul, add-mul, mul-le-mul_left, mul-add, arith}
 use native.Mathlib.Nat.{mul-mul-mul_comm, mul-div-le, mod-add-div, lt_of_mul-lt-mul_left}
-use Rattle.std.specs.List.{AllByRecursion}
-use Rattle.std.proofs.lemmas.Nat.{mul-le}
+use Rattle.std.specs.List.{All}
+use Rattle.std.proofs.lemmas.List.Elements.{All-head, All-tail}
 use Rattle.std.proofs.lemmas.List.Sums.{sum_by-cons}
 use Rattle.span.specs.Spans.{span_of}
 use Rattle.coretests.specs.declared.entry.Entry.{Entry}
 use Rattle.coretests.specs.Entries.{periods, sound}
 use Rattle.coretests.specs.Edf.{entry_demand, demand}
-use Rattle.coretests.specs.Soundness.{InRange, Divides, in_range_all, span_divides}
+use Rattle.coretests.specs.Soundness.{InRange, Divides, in_range_each, span_divides}
 
 -- the work of an entry in m ticks, of which its periods are a divisor
 abbrev pub share : ℕ → Entry → ℕ
@@ -17,9 +17,6 @@ share m e = e.load * (m / e.period)
 -- that work, as often as the deadline is before the end of the period
 abbrev pub lead_of : ℕ → Entry → ℕ
 lead_of m e = share m e * (e.period - e.deadline)
-
-pub share_small : (m : ℕ) (e : Entry) → InRange e → m ≤ 1000000 → share m e ≤ 1000000000000000
-share_small m e f h = mul-le e.load (m / e.period) 1000000000 1000000 f.load_high (omega (arith, div-le_self m e.period))
 
 pub lead_small : (m : ℕ) (e : Entry) → InRange e → lead_of m e ≤ share m e * 1000000
 lead_small m e f = let near : e.period - e.deadline ≤ 1000000 = omega arith in mul-le-mul_left (share m e) near
@@ -37,10 +34,11 @@ entry_under m t e f d =
     let few : e.period * jobs ≤ t + rest = omega (arith, mul-div-le (t + e.period - e.deadline) e.period) in
     omega (arith, swapped, mul-le-mul_left (share m e) few, mul-add (share m e) t rest)
 
-demand_under : (m t : ℕ) (xs : List Entry) → AllByRecursion InRange xs → Divides m xs → m * demand xs t ≤ sum_by (share m) xs * t + sum_by (lead_of m) xs
+demand_under : (m t : ℕ) (xs : List Entry) → All InRange xs → Divides m xs → m * demand xs t ≤ sum_by (share m) xs * t + sum_by (lead_of m) xs
 unfolding demand
 demand_under m t [] a d = omega arith
 demand_under m t (x ∷ xs) a d =
+    let divided = λ (e : Entry). m % e.period ≡ 0 in
     omega (
       arith,
       sum_by-cons (entry_demand t) x xs,
@@ -50,8 +48,8 @@ demand_under m t (x ∷ xs) a d =
       mul-add m (entry_demand t x) (sum_by (entry_demand t) xs),
       ap (λ n. n * t) (sum_by-cons (share m) x xs),
       add-mul (share m x) (sum_by (share m) xs) t,
-      entry_under m t x a.0 d.0,
-      demand_under m t xs a.1 d.1,
+      entry_under m t x (All-head InRange x xs a) (All-head divided x xs d),
+      demand_under m t xs (All-tail InRange x xs a) (All-tail divided x xs d),
     )
 
 -- past the moment where the line leaves `least`, the demand does
@@ -71,4 +69,4 @@ pub past_tight : (xs : List Entry) (m work lead least s : ℕ) → sound xs ≡ 
 past_tight xs m work lead least s ok is w l less past =
     let divided : Divides m xs = rw is (span_divides xs ok) in
     past_line m work lead least (demand xs s) s
-    (omega (arith, demand_under m s xs (in_range_all xs ok) divided, ap (λ n. n * s) w)) less past
+    (omega (arith, demand_under m s xs (in_range_each xs ok) divided, ap (λ n. n * s) w)) less past

@@ -1,3 +1,6 @@
 pub mod EdfSteps
 pub mod DemandLine
 pub mod Slacks
+pub mod Ordered
+pub mod Found
+pub mod More

@@ -1,5 +1,5 @@
 -- Facts on limits. Assumes nothing.
-use Rattle.std.specs.Prelude.{◌≡◌, ℕ, zero, suc, ◌+◌, ◌<◌, ◌≤◌, Some, None, Option, refl}
+use Rattle.std.specs.Prelude.{◌≡◌, ℕ, zero, suc, ◌+◌, ◌<◌, ◌≤◌, Some, None, Option}
 use Rattle.std.proofs.Common.{ap, ◌∙◌, ⊎_elim, add-zero, add-suc, arith}
 use Rattle.std.proofs.lemmas.Bool.{cases_lt}
 use Rattle.coretests.specs.Limits.{lesser, AtMost, least}
@@ -20,14 +20,6 @@ lesser_mono (Some a) None (Some c) (Some d) h k = absurd k
 lesser_mono (Some a) (Some b) (Some c) None h k = omega arith
 lesser_mono (Some a) (Some b) (Some c) (Some d) h k = omega arith
 
-pub lesser-none : (o : Option ℕ) → lesser o None ≡ o
-lesser-none None = refl
-lesser-none (Some a) = refl
-
-pub lesser_zero : (o : Option ℕ) → lesser o (Some 0) ≡ Some 0
-lesser_zero None = refl
-lesser_zero (Some a) = ap Some (omega arith)
-
 pub least_mono : (f g : ℕ → ℕ) (start count : ℕ) → ((t : ℕ) → f t ≤ g t) → AtMost (least f start count) (least g start count)
 least_mono f g start zero h = tt
 least_mono f g start (suc count) h =
@@ -45,16 +37,6 @@ least_skip f start n (suc k) b h =
     ap (λ m. lesser (Some b) (least f start m)) (add-suc n k)
     ∙ lesser_past b (f (start + (n + k))) (least f start (n + k)) (h (start + (n + k)) (omega arith) (omega arith))
     ∙ least_skip f start n k b (λ t u v. h t u (omega arith))
-
-pub least_zero : (f : ℕ → ℕ) (start count t : ℕ) → start ≤ t → t < start + count → f t ≡ 0 → least f start count ≡ Some 0
-least_zero f start zero t a b h = absurd (omega arith)
-least_zero f start (suc count) t a b h =
-    ⊎_elim
-    (λ (l : t < start + count). ap (λ o. lesser o (Some (f (start + count)))) (least_zero f start count t a l h) ∙ ap Some (omega arith))
-    (λ (l : start + count ≤ t).
-    let here : f (start + count) ≡ 0 = ap f (omega arith) ∙ h in
-    ap (λ n. lesser (least f start count) (Some n)) here ∙ lesser_zero (least f start count))
-    (cases_lt t (start + count))
 
 lesser_left : (o : Option ℕ) (m n : ℕ) → AtMost o (Some n) → AtMost (lesser o (Some m)) (Some n)
 lesser_left None m n h = absurd h

@@ -5,7 +5,8 @@ use Rattle.std.proofs.Math.Nat.{div-eq_of_lt}
 use Rattle.std.proofs.lemmas.List.Sums.{sum_by-cons, sum_by-append}
 use Rattle.std.proofs.lemmas.Nat.{mul-le}
 use Rattle.std.proofs.lemmas.Bool.{cases_lt}
-use Rattle.std.specs.List.{AllZip, AllByRecursion}
+use Rattle.std.proofs.lemmas.List.Elements.{All-head, All-tail}
+use Rattle.std.specs.List.{AllZip, All}
 use Rattle.coretests.specs.declared.entry.Entry.{Entry}
 use Rattle.coretests.specs.Entries.{LighterEntry, Lighter}
 use Rattle.coretests.specs.Edf.{entry_demand, demand}
@@ -20,14 +21,14 @@ sum_each R f g h (x ∷ xs) [] e = absurd e
 sum_each R f g h (x ∷ xs) (y ∷ ys) e =
     omega (arith, sum_by-cons f x xs, sum_by-cons g y ys, h x y e.0, sum_each R f g h xs ys e.1)
 
-pub sum_all : {X : Type 0} (P : X → Type 0) (f g : X → ℕ) → ((x : X) → P x → f x ≤ g x) → (xs : List X) → AllByRecursion P xs → sum_by f xs ≤ sum_by g xs
+pub sum_all : {X : Type 0} (P : X → Type 0) (f g : X → ℕ) → ((x : X) → P x → f x ≤ g x) → (xs : List X) → All P xs → sum_by f xs ≤ sum_by g xs
 sum_all P f g h [] a = omega arith
-sum_all P f g h (x ∷ xs) a = omega (arith, sum_by-cons f x xs, sum_by-cons g x xs, h x a.0, sum_all P f g h xs a.1)
+sum_all P f g h (x ∷ xs) a = omega (arith, sum_by-cons f x xs, sum_by-cons g x xs, h x (All-head P x xs a), sum_all P f g h xs (All-tail P x xs a))
 
 entry_mono : (t u : ℕ) (e : Entry) → t ≤ u → InRange e → entry_demand t e ≤ entry_demand u e
 entry_mono t u e l f = mul-le-mul_left e.load (div_mono (t + e.period - e.deadline) (u + e.period - e.deadline) e.period f.period_low (omega arith))
 
-pub demand_mono : (xs : List Entry) → AllByRecursion InRange xs → (t u : ℕ) → t ≤ u → demand xs t ≤ demand xs u
+pub demand_mono : (xs : List Entry) → All InRange xs → (t u : ℕ) → t ≤ u → demand xs t ≤ demand xs u
 unfolding demand
 demand_mono xs a t u l = sum_all InRange (entry_demand t) (entry_demand u) (λ e f. entry_mono t u e l f) xs a
 
@@ -57,13 +58,14 @@ entry_later t m e f d =
     omega (arith, ap (λ n. n / p) one, ap (λ n. n / p) two, ap (λ n. n / p) three, div_later (t + rest) m p f.period_low d, div_later rest m p f.period_low d) in
     ap (λ n. e.load * n) jobs ∙ mul-add e.load ((t + e.period - e.deadline) / p) ((m + e.period - e.deadline) / p)
 
-pub demand_later : (xs : List Entry) (t m : ℕ) → AllByRecursion InRange xs → Divides m xs → demand xs (t + m) ≡ demand xs t + demand xs m
+pub demand_later : (xs : List Entry) (t m : ℕ) → All InRange xs → Divides m xs → demand xs (t + m) ≡ demand xs t + demand xs m
 unfolding demand
 demand_later [] t m a d = refl
 demand_later (x ∷ xs) t m a d =
-    omega (arith, sum_by-cons (entry_demand (t + m)) x xs, sum_by-cons (entry_demand t) x xs, sum_by-cons (entry_demand m) x xs, entry_later t m x a.0 d.0, demand_later xs t m a.1 d.1)
+    let divided = λ (e : Entry). m % e.period ≡ 0 in
+    omega (arith, sum_by-cons (entry_demand (t + m)) x xs, sum_by-cons (entry_demand t) x xs, sum_by-cons (entry_demand m) x xs, entry_later t m x (All-head InRange x xs a) (All-head divided x xs d), demand_later xs t m (All-tail InRange x xs a) (All-tail divided x xs d))
 
-module _ (xs : List Entry) (m : ℕ) (in_range : AllByRecursion InRange xs) (divided : Divides m xs) (positive : 1 ≤ m) (met : (s : ℕ) → s ≤ m → demand xs s ≤ s) where
+module _ (xs : List Entry) (m : ℕ) (in_range : All InRange xs) (divided : Divides m xs) (positive : 1 ≤ m) (met : (s : ℕ) → s ≤ m → demand xs s ≤ s) where
   upto : (n t : ℕ) → t ≤ n → demand xs t ≤ t
   upto zero t l = met t (omega arith)
   upto (suc n) t l =

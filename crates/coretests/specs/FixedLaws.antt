@@ -1,19 +1,17 @@
 -- Fixed priorities keep the laws of every core test, and the loops over the entries. Assumes nothing.
-use Rattle.std.specs.Prelude.{◌≡◌, ℕ, ◌+◌, ◌-◌, ◌<◌, ◌≤◌, true, ◌&&◌, List, [], ◌∷◌, ◌++◌, length, take, drop, is_some, Some, None, Option, slice_index_or, refl}
+use Rattle.std.specs.Prelude.{◌≡◌, ℕ, ◌+◌, ◌<◌, ◌≤◌, true, ◌&&◌, List, [], ◌∷◌, ◌++◌, length, take, drop, is_some, Some, None, Option, refl}
 use Rattle.std.proofs.Common.{sym, ap, ◌∙◌, arith}
 use Rattle.std.specs.Option.{unwrap_or}
-use Rattle.std.specs.List.{AllByRecursion}
 use Rattle.std.proofs.lemmas.List.{at_drop_more, take_more}
 use Rattle.std.proofs.lemmas.List.Elements.{AllZip-push}
-use Rattle.std.proofs.ByRecursion.{All-take, All-weaker}
 use Rattle.std.proofs.lemmas.Bool.{and_parts, and_from, leb-true, le-leb}
 use Rattle.coretests.specs.declared.entry.Entry.{Entry}
 use Rattle.coretests.specs.Limits.{lesser, AtMost}
-use Rattle.coretests.specs.Entries.{in_range, sound, LighterEntry, Lighter}
+use Rattle.coretests.specs.Entries.{LighterEntry, Lighter}
 use Rattle.coretests.specs.FixedPriority.{tolerance, one_more, all_tolerate, least_tolerance, FixedAccepts}
 use Rattle.coretests.specs.Bounds.{lesser_mono}
-use Rattle.coretests.specs.Soundness.{InRange, blank, in_range_from, in_range_all, sound_lighter, sound_front}
-use Rattle.coretests.specs.Tolerances.{some_is, value_is, tolerance_lighter}
+use Rattle.coretests.specs.Soundness.{blank, sound_lighter, sound_front}
+use Rattle.coretests.specs.Tolerances.{tolerance_of, some_is, value_is, tolerance_lighter}
 
 some_lighter : (ps qs : List Entry) (x y : Entry) → Lighter ps qs → LighterEntry x y → is_some (tolerance ps x) ≡ true → is_some (tolerance qs y) ≡ true
 some_lighter ps qs x y l e h =
@@ -51,28 +49,21 @@ fixed_lighter xs ys e m = (sound_lighter xs ys e m.0, all_tolerate_lighter [] []
 pub fixed_front : (xs : List Entry) (x : Entry) → FixedAccepts (xs ++ (x ∷ [])) → FixedAccepts xs
 fixed_front xs x m = (sound_front xs (x ∷ []) m.0, all_tolerate_front [] xs (x ∷ []) m.1)
 
--- the loops over the entries
+-- one entry more
 pub all_tolerate_next : (xs : List Entry) (i : ℕ) → i < length xs
-    → all_tolerate (take i xs) (drop i xs) ≡ (is_some (tolerance (take i xs) (slice_index_or xs i blank)) && all_tolerate (take (i + 1) xs) (drop (i + 1) xs))
+    → all_tolerate (take i xs) (drop i xs) ≡ (is_some (tolerance_of xs i) && all_tolerate (take (i + 1) xs) (drop (i + 1) xs))
 all_tolerate_next xs i h =
     at_drop_more (all_tolerate (take i xs)) xs i blank h
-    ∙ ap (λ ps. is_some (tolerance (take i xs) (slice_index_or xs i blank)) && all_tolerate ps (drop (i + 1) xs)) (sym (take_more xs i blank h))
+    ∙ ap (λ ps. is_some (tolerance_of xs i) && all_tolerate ps (drop (i + 1) xs)) (sym (take_more xs i blank h))
 
 pub least_next : (xs : List Entry) (i : ℕ) → i < length xs
-    → least_tolerance (take i xs) (drop i xs) ≡ lesser (Some (unwrap_or (tolerance (take i xs) (slice_index_or xs i blank)) 0)) (least_tolerance (take (i + 1) xs) (drop (i + 1) xs))
+    → least_tolerance (take i xs) (drop i xs) ≡ lesser (Some (unwrap_or (tolerance_of xs i) 0)) (least_tolerance (take (i + 1) xs) (drop (i + 1) xs))
 least_next xs i h =
     at_drop_more (least_tolerance (take i xs)) xs i blank h
-    ∙ ap (λ ps. lesser (Some (unwrap_or (tolerance (take i xs) (slice_index_or xs i blank)) 0)) (least_tolerance ps (drop (i + 1) xs))) (sym (take_more xs i blank h))
+    ∙ ap (λ ps. lesser (Some (unwrap_or (tolerance_of xs i) 0)) (least_tolerance ps (drop (i + 1) xs))) (sym (take_more xs i blank h))
 
 pub lesser_assoc : (a b c : Option ℕ) → lesser (lesser a b) c ≡ lesser a (lesser b c)
 lesser_assoc None b c = refl
 lesser_assoc (Some a) None c = refl
 lesser_assoc (Some a) (Some b) None = refl
 lesser_assoc (Some a) (Some b) (Some c) = ap Some (omega arith)
-
--- the part of the list in front of i, as the code cuts it
-pub front_tolerance : (xs : List Entry) (i : ℕ) (o : Option ℕ) → o ≡ tolerance (take (i - 0) xs) (slice_index_or xs i blank) → o ≡ tolerance (take i xs) (slice_index_or xs i blank)
-front_tolerance xs i o is = is ∙ ap (λ n. tolerance (take n xs) (slice_index_or xs i blank)) (omega arith)
-
-pub front_in_range : (xs : List Entry) (i : ℕ) → sound xs ≡ true → AllByRecursion (λ x. in_range x ≡ true) (take (i - 0) xs)
-front_in_range xs i s = All-take (λ x. in_range x ≡ true) (i - 0) xs (All-weaker InRange (λ x. in_range x ≡ true) in_range_from xs (in_range_all xs s))

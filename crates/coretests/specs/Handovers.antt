@@ -1,15 +1,15 @@
 -- A handover raises each load. Assumes nothing.
-use Rattle.std.specs.Prelude.{◌≡◌, ℕ, ◌+◌, ◌-◌, ◌<◌, true, false, cond, List, [], ◌∷◌, ◌++◌, length, take, Some, None, Option, slice_index_or, slice_set}
+use Rattle.std.specs.Prelude.{◌≡◌, ℕ, true, false, cond, List, [], ◌∷◌, ◌++◌, Some, None, Option}
 use Rattle.std.proofs.Common.{sym, ◌∙◌, ⊎_elim, arith}
 use Rattle.std.proofs.Math.Path.{ap}
 use Rattle.std.proofs.lemmas.Bool.{cases_Bool}
-use Rattle.std.proofs.lemmas.List.{map_more, take_more_set, map_push}
+use Rattle.std.proofs.lemmas.List.{map_push}
 use Rattle.coretests.specs.declared.entry.Entry.{Entry}
 use Rattle.coretests.specs.Limits.{AtMost}
 use Rattle.coretests.specs.Entries.{sound, Lighter}
 use Rattle.coretests.specs.Layers.{raise, raised, lessened, handed_over}
 use Rattle.coretests.specs.Bounds.{at_most_zero}
-use Rattle.coretests.specs.Soundness.{blank, sound_lighter}
+use Rattle.coretests.specs.Soundness.{sound_lighter}
 
 pub lessened_mono : (h : ℕ) (a b : Option ℕ) → AtMost a b → AtMost (lessened h a) (lessened h b)
 lessened_mono h None None k = tt
@@ -30,11 +30,6 @@ raised_lighter h (x ∷ xs) (y ∷ ys) e =
 pub raised_push : (h : ℕ) (xs : List Entry) (x : Entry) → raised h (xs ++ (x ∷ [])) ≡ raised h xs ++ (raise h x ∷ [])
 raised_push h xs x = map_push (raise h) xs x
 
-pub raised_next : (h : ℕ) (xs all : List Entry) (i : ℕ) → i < length xs → i < length all → take i all ≡ raised h (take i xs)
-    → take (i + 1) (slice_set all i (raise h (slice_index_or xs i blank))) ≡ raised h (take (i + 1) xs)
-raised_next h xs all i a b e =
-    take_more_set all i (raise h (slice_index_or xs i blank)) b ∙ ap (λ ys. ys ++ (raise h (slice_index_or xs i blank) ∷ [])) e ∙ sym (map_more (raise h) xs i blank a)
-
 module _ (h : ℕ) (below : List Entry → Option ℕ) where
   pub handed_unsound : (xs : List Entry) → sound xs ≡ false → handed_over h below xs ≡ Some 0
   unfolding handed_over
@@ -44,16 +39,10 @@ module _ (h : ℕ) (below : List Entry → Option ℕ) where
   unfolding handed_over
   handed_sound xs s = ap (λ b. cond b (lessened h (below (raised h xs))) (Some 0)) s
 
-  -- what the test below says of the raised list, as the code cuts it out of the array
-  pub handed_is : (xs all : List Entry) (o : Option ℕ) → sound xs ≡ true → take (length xs) all ≡ raised h xs → o ≡ below (take (length xs - 0) all)
-      → lessened h o ≡ handed_over h below xs
-  handed_is xs all o s e is =
-      let whole : take (length xs - 0) all ≡ take (length xs) all = ap (λ n. take n all) (omega arith) in
-      ap (lessened h) (is ∙ ap below (whole ∙ e)) ∙ sym (handed_sound xs s)
-
-  pub handed_some : (xs all : List Entry) (n a : ℕ) → sound xs ≡ true → take (length xs) all ≡ raised h xs → Some a ≡ below (take (length xs - 0) all) → n ≡ a - h
-      → Some n ≡ handed_over h below xs
-  handed_some xs all n a s e is less = ap Some less ∙ handed_is xs all (Some a) s e is
+  -- what the test below says of the raised list
+  pub handed_is : (xs ys zs : List Entry) (o : Option ℕ) → sound ys ≡ true → ys ≡ xs → zs ≡ raised h ys → o ≡ below zs → lessened h o ≡ handed_over h below xs
+  handed_is xs ys zs o s e r is =
+      ap (lessened h) (is ∙ ap below r) ∙ sym (handed_sound ys s) ∙ ap (handed_over h below) e
 
   pub handed_zero : (xs : List Entry) → below (raised h xs) ≡ Some 0 → handed_over h below xs ≡ Some 0
   handed_zero xs e =

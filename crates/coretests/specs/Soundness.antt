@@ -1,11 +1,10 @@
 -- Sound lists, and what keeps a list sound. Assumes nothing.
-use Rattle.std.specs.Prelude.{◌≡◌, ℕ, ◌+◌, ◌%◌, ◌<◌, ◌≤◌, true, false, ◌&&◌, List, [], ◌∷◌, ◌++◌, length, get_or, drop, nat_le, slice_index_or, refl}
-use Rattle.std.proofs.Common.{sym, ap, subst, ◌∙◌, arith, length-append}
-use Rattle.std.proofs.lemmas.List.{at_drop_more, map-append}
+use Rattle.std.specs.Prelude.{◌≡◌, ℕ, ◌%◌, ◌<◌, ◌≤◌, true, false, List, [], ◌∷◌, ◌++◌, length, take, nat_le, slice_index_or, refl}
+use Rattle.std.proofs.Common.{ap, subst, ◌∙◌, arith, length-append}
+use Rattle.std.proofs.lemmas.List.{map-append}
 use Rattle.std.proofs.lemmas.Bool.{and_parts, and_from, and_left, and_right, leb-true, le-leb, lt-leb}
-use Rattle.std.proofs.lemmas.List.Elements.{length_all_zip}
-use Rattle.std.proofs.ByRecursion.{All-get_or}
-use Rattle.std.specs.List.{AllByRecursion}
+use Rattle.std.proofs.lemmas.List.Elements.{length_all_zip, All-nil, All-cons, All-head, All-tail, All-take, recursion_from_All}
+use Rattle.std.specs.List.{All, AllByRecursion}
 use Rattle.span.specs.Spans.{span_of, Positive, CommonMultiple}
 use Rattle.span.proofs.Multiples.{span_some, span_common, span_prefix}
 use Rattle.coretests.specs.declared.entry.Entry.{Entry}
@@ -41,25 +40,12 @@ in_range_from e f =
     and_from _ _ (and_from _ _ (le-leb _ _ f.period_low) (le-leb _ _ f.period_high))
     (and_from _ _ (and_from _ _ (le-leb _ _ f.deadline_low) (le-leb _ _ f.deadline_high)) (le-leb _ _ f.load_high))
 
--- a loop over the entries
-pub ordered_pass : (d : ℕ) (xs : List Entry) (i : ℕ) → i < length xs → in_range (slice_index_or xs i blank) ≡ true → d ≤ (get_or xs i blank).deadline
-    → ordered_from (get_or xs i blank).deadline (drop (i + 1) xs) ≡ ordered_from d (drop i xs)
-ordered_pass d xs i h f l =
-    sym (at_drop_more (ordered_from d) xs i blank h
-    ∙ ap (λ b. b && (nat_le d (get_or xs i blank).deadline && ordered_from (get_or xs i blank).deadline (drop (i + 1) xs))) f
-    ∙ ap (λ b. b && ordered_from (get_or xs i blank).deadline (drop (i + 1) xs)) (le-leb _ _ l))
-
-pub ordered_out : (d : ℕ) (xs : List Entry) (i : ℕ) → i < length xs → in_range (slice_index_or xs i blank) ≡ false → ordered_from d (drop i xs) ≡ false
-ordered_out d xs i h f = at_drop_more (ordered_from d) xs i blank h ∙ and_left _ _ f
-
-pub ordered_early : (d : ℕ) (xs : List Entry) (i : ℕ) → i < length xs → (get_or xs i blank).deadline < d → ordered_from d (drop i xs) ≡ false
-ordered_early d xs i h l = at_drop_more (ordered_from d) xs i blank h ∙ and_right _ _ (and_left _ _ (lt-leb _ _ l))
-
-pub ordered_in_range : (d : ℕ) (xs : List Entry) → ordered_from d xs ≡ true → AllByRecursion InRange xs
-ordered_in_range d [] h = tt
+-- the order of the deadlines
+pub ordered_in_range : (d : ℕ) (xs : List Entry) → ordered_from d xs ≡ true → All InRange xs
+ordered_in_range d [] h = All-nil InRange
 ordered_in_range d (x ∷ xs) h =
     let a = and_parts _ _ h in
-    (in_range_is x a.0, ordered_in_range x.deadline xs (and_parts _ _ a.1).1)
+    All-cons InRange x xs (in_range_is x a.0) (ordered_in_range x.deadline xs (and_parts _ _ a.1).1)
 
 ordered_front : (d : ℕ) (xs ys : List Entry) → ordered_from d (xs ++ ys) ≡ true → ordered_from d xs ≡ true
 ordered_front d [] ys h = refl
@@ -86,15 +72,15 @@ ordered_lighter d (x ∷ xs) (y ∷ ys) e h =
 
 -- the span of the periods
 abbrev pub Divides : ℕ → List Entry → Type 0
-Divides m xs = AllByRecursion (λ e. m % e.period ≡ 0) xs
+Divides m xs = All (λ e. m % e.period ≡ 0) xs
 
-pub periods_positive : (xs : List Entry) → AllByRecursion InRange xs → Positive (periods xs)
+pub periods_positive : (xs : List Entry) → All InRange xs → Positive (periods xs)
 periods_positive [] a = tt
-periods_positive (x ∷ xs) a = (a.0.period_low, periods_positive xs a.1)
+periods_positive (x ∷ xs) a = ((All-head InRange x xs a).period_low, periods_positive xs (All-tail InRange x xs a))
 
 divides_is : (m : ℕ) (xs : List Entry) → CommonMultiple (periods xs) m → Divides m xs
-divides_is m [] h = tt
-divides_is m (x ∷ xs) h = (h.0, divides_is m xs h.1)
+divides_is m [] h = All-nil (λ e. m % e.period ≡ 0)
+divides_is m (x ∷ xs) h = All-cons (λ e. m % e.period ≡ 0) x xs h.0 (divides_is m xs h.1)
 
 periods_lighter : (xs ys : List Entry) → Lighter xs ys → periods ys ≡ periods xs
 periods_lighter [] [] e = refl
@@ -131,23 +117,33 @@ pub unsound_span : (xs : List Entry) → 1000000 < span_of (periods xs) → soun
 unfolding sound
 unsound_span xs h = and_right (nat_le (length xs) 24) _ (and_right (ordered_from 0 xs) _ (lt-leb _ _ h))
 
+pub in_range_each : (xs : List Entry) → sound xs ≡ true → All InRange xs
+in_range_each xs s = ordered_in_range 0 xs (sound_is xs s).ordered
+
+-- the same by recursion on the list, as proofs about assigned tasks take it
 pub in_range_all : (xs : List Entry) → sound xs ≡ true → AllByRecursion InRange xs
-in_range_all xs s = ordered_in_range 0 xs (sound_is xs s).ordered
+in_range_all xs s = recursion_from_All InRange xs (in_range_each xs s)
 
 pub in_range_at : (xs : List Entry) (i : ℕ) → sound xs ≡ true → i < length xs → InRange (slice_index_or xs i blank)
-in_range_at xs i s h = All-get_or InRange xs i blank h (in_range_all xs s)
+in_range_at xs i s h = in_range_each xs s i blank h
+
+pub front_in_range : (xs : List Entry) (n : ℕ) → sound xs ≡ true → All InRange (take n xs)
+front_in_range xs n s = All-take InRange n xs (in_range_each xs s)
+
+pub front_in_range_at : (xs : List Entry) (n i : ℕ) → sound xs ≡ true → i < length (take n xs) → InRange (slice_index_or (take n xs) i blank)
+front_in_range_at xs n i s h = front_in_range xs n s i blank h
 
 pub span_low : (xs : List Entry) → sound xs ≡ true → 1 ≤ span_of (periods xs)
-span_low xs s = span_some (periods xs) (periods_positive xs (in_range_all xs s))
+span_low xs s = span_some (periods xs) (periods_positive xs (in_range_each xs s))
 
 pub span_divides : (xs : List Entry) → sound xs ≡ true → Divides (span_of (periods xs)) xs
-span_divides xs s = divides_is (span_of (periods xs)) xs (span_common (periods xs) (periods_positive xs (in_range_all xs s)))
+span_divides xs s = divides_is (span_of (periods xs)) xs (span_common (periods xs) (periods_positive xs (in_range_each xs s)))
 
 pub sound_front : (xs ys : List Entry) → sound (xs ++ ys) ≡ true → sound xs ≡ true
 sound_front xs ys h =
     let s = sound_is (xs ++ ys) h in
     let joined : periods (xs ++ ys) ≡ periods xs ++ periods ys = map-append (λ e. e.period) xs ys in
-    let positive : Positive (periods xs ++ periods ys) = subst Positive joined (periods_positive (xs ++ ys) (in_range_all (xs ++ ys) h)) in
+    let positive : Positive (periods xs ++ periods ys) = subst Positive joined (periods_positive (xs ++ ys) (in_range_each (xs ++ ys) h)) in
     sound-from xs (record {
       few = omega (arith, length-append xs ys);
       ordered = ordered_front 0 xs ys s.ordered;

@@ -1,19 +1,26 @@
 -- The tolerance of an entry, and how it is found. Assumes nothing.
 use Rattle.std.specs.Prelude.{◌≡◌, ℕ, zero, suc, ◌+◌, ◌-◌, ◌/◌, ◌<◌, ◌≤◌, max, Bool, true, false, cond, leb, List, length, take, is_some, Some, None, Option, ◌≢◌, nat_le, slice_index_or, refl}
 use Rattle.std.proofs.Common.{sym, ap, ◌∙◌, ⊎_elim, add-zero, add-suc, mul-le-mul_left, arith}
-use Rattle.std.specs.Option.{SomeIff, unwrap_or}
-use Rattle.std.specs.List.{AllByRecursion}
+use Rattle.std.specs.Option.{unwrap_or}
+use Rattle.std.specs.List.{All}
 use Rattle.std.proofs.lemmas.List.Sums.{sum_by_more, sum_by-take-le}
 use Rattle.std.proofs.lemmas.Nat.{mul-le}
 use Rattle.std.proofs.lemmas.Bool.{or_cases, or_left, or_right, cases_Bool, leb-true, le-leb, both_ways, cases_lt}
 use Rattle.coretests.specs.declared.entry.Entry.{Entry}
 use Rattle.coretests.specs.Limits.{greatest_below}
-use Rattle.coretests.specs.Entries.{in_range, LighterEntry, Lighter}
+use Rattle.coretests.specs.Entries.{LighterEntry, Lighter}
 use Rattle.coretests.specs.FixedPriority.{interference, workload, some_up_to, tolerates, tolerance, one_more}
 use Rattle.coretests.specs.Meanings.{Tolerates, LargestTolerated, ToleranceIsLargest}
 use Rattle.coretests.specs.Demand.{sum_each, sum_all}
 use Rattle.coretests.specs.Steps.{div_mono}
-use Rattle.coretests.specs.Soundness.{blank, in_range_is}
+use Rattle.coretests.specs.Soundness.{InRange, blank}
+
+-- the entry at i behind the entries before it
+abbrev pub workload_of : List Entry → ℕ → ℕ → ℕ
+workload_of xs i t = workload (take i xs) (slice_index_or xs i blank) t
+
+abbrev pub tolerance_of : List Entry → ℕ → Option ℕ
+tolerance_of xs i = tolerance (take i xs) (slice_index_or xs i blank)
 
 -- the greatest of f start, f (start + 1), .. , `count` of them
 abbrev pub most : (ℕ → ℕ) → ℕ → ℕ → ℕ
@@ -56,17 +63,17 @@ most_somewhere f start (suc count) h =
     (cases_lt (f (start + count)) (most f start count))
 
 -- the work that comes
-interference_mono : (t u : ℕ) (e : Entry) → t ≤ u → in_range e ≡ true → interference t e ≤ interference u e
-interference_mono t u e l f = mul-le-mul_left e.load (div_mono (t + e.period - 1) (u + e.period - 1) e.period (in_range_is e f).period_low (omega arith))
+interference_mono : (t u : ℕ) (e : Entry) → t ≤ u → InRange e → interference t e ≤ interference u e
+interference_mono t u e l f = mul-le-mul_left e.load (div_mono (t + e.period - 1) (u + e.period - 1) e.period f.period_low (omega arith))
 
 interference_lighter : (t : ℕ) (x y : Entry) → LighterEntry x y → interference t y ≤ interference t x
 interference_lighter t x y e =
     let jobs = ap (λ (p : ℕ). (t + p - 1) / p) e.period in
     mul-le y.load ((t + y.period - 1) / y.period) x.load ((t + x.period - 1) / x.period) e.load (omega (arith, jobs))
 
-pub workload_mono : (xs : List Entry) (e : Entry) (t u : ℕ) → AllByRecursion (λ x. in_range x ≡ true) xs → t ≤ u → workload xs e t ≤ workload xs e u
+pub workload_mono : (xs : List Entry) (e : Entry) (t u : ℕ) → All InRange xs → t ≤ u → workload xs e t ≤ workload xs e u
 unfolding workload
-workload_mono xs e t u a l = omega (arith, sum_all (λ x. in_range x ≡ true) (interference t) (interference u) (λ x f. interference_mono t u x l f) xs a)
+workload_mono xs e t u a l = omega (arith, sum_all InRange (interference t) (interference u) (λ x f. interference_mono t u x l f) xs a)
 
 pub workload_lighter : (xs ys : List Entry) (x y : Entry) → Lighter xs ys → LighterEntry x y → (t : ℕ) → workload ys y t ≤ workload xs x t
 unfolding workload
@@ -92,7 +99,7 @@ abbrev pub margin : List Entry → Entry → ℕ
 margin before e = most (spare before e) 1 e.deadline
 
 -- one turn: no moment from t up to b + n has more than n to spare
-pub spare_skip : (xs : List Entry) (e : Entry) (t b n top : ℕ) → AllByRecursion (λ x. in_range x ≡ true) xs → b ≡ workload xs e t → t < b + n → t ≤ top
+pub spare_skip : (xs : List Entry) (e : Entry) (t b n top : ℕ) → All InRange xs → b ≡ workload xs e t → t < b + n → t ≤ top
     → max n (most (spare xs e) (b + n) (top + 1 - (b + n))) ≡ max n (most (spare xs e) t (top + 1 - t))
 spare_skip xs e t b n top a is l h =
     let f = spare xs e in
@@ -115,7 +122,7 @@ pub spare_here : (xs : List Entry) (e : Entry) (t b n top : ℕ) → b ≡ workl
 spare_here xs e t b n top is h = omega (arith, most_at (spare xs e) t (top + 1 - t) t (omega arith) (omega arith))
 
 -- no moment from t on has any to spare
-pub spare-none : (xs : List Entry) (e : Entry) (t n top : ℕ) → AllByRecursion (λ x. in_range x ≡ true) xs → top < workload xs e t → max n (most (spare xs e) t (top + 1 - t)) ≡ n
+pub spare-none : (xs : List Entry) (e : Entry) (t n top : ℕ) → All InRange xs → top < workload xs e t → max n (most (spare xs e) t (top + 1 - t)) ≡ n
 spare-none xs e t n top a h =
     omega (arith, most_le (spare xs e) t (top + 1 - t) 0 (λ s u v. omega (arith, workload_mono xs e t s a u)))
 
@@ -199,12 +206,12 @@ module _ (before : List Entry) (e : Entry) where
 pub tolerance_is_largest_lem : ToleranceIsLargest
 tolerance_is_largest_lem before e = largest_is before e
 
--- what is one less than one more
-pub one_less_is : (r o : Option ℕ) (n : ℕ) → n ≡ one_more o → SomeIff r (1 ≤ n) (n - 1) → r ≡ o
-one_less_is None None n is h = refl
-one_less_is None (Some b) n is h = absurd (h (omega arith))
-one_less_is (Some a) None n is h = absurd (omega (arith, h.0))
-one_less_is (Some a) (Some b) n is h = ap Some (omega (arith, h.1))
+-- a tolerance is known by one more than it
+pub same_from_one_more : (r o : Option ℕ) → one_more r ≡ one_more o → r ≡ o
+same_from_one_more None None e = refl
+same_from_one_more None (Some b) e = absurd (omega arith)
+same_from_one_more (Some a) None e = absurd (omega arith)
+same_from_one_more (Some a) (Some b) e = ap Some (omega arith)
 
 pub some_is : (o : Option ℕ) → is_some o ≡ nat_le 1 (one_more o)
 some_is None = refl

@@ -3,7 +3,7 @@ ghost use Rattle.std.specs.Prelude.{◌≡◌};
 ghost use Rattle.coretests.specs.Layers.{clamped, capped};
 ghost use Rattle.std.proofs.Common.{rules};
 
-use crate::core_test::{CoreTest, shorter};
+use crate::core_test::CoreTest;
 use crate::entry::{Entry, MAX_TICKS};
 
 // The least cap.
@@ -52,6 +52,6 @@ impl<C: CoreTest> CoreTest for Cap<C> {
 
     fn longest(&self, list: &[Entry], d: u32) -> Option<u32> {
         let limit = self.below.longest(list, d);
-        Some(shorter(limit, self.c))
+        Some(limit.map_or(self.c, |limit| limit.min(self.c)))
     }
 }

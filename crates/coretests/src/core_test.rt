@@ -1,7 +1,7 @@
 // What every core test answers, and the laws that it keeps.
 ghost use Rattle.std.specs.Prelude.{◌≡◌, ℕ, true, false, List, [], ◌∷◌, ◌++◌, Some, Decides, Option};
 ghost use Rattle.coretests.specs.declared.entry.Entry.{Entry};
-ghost use Rattle.coretests.specs.Limits.{AtMost, lesser};
+ghost use Rattle.coretests.specs.Limits.{AtMost};
 ghost use Rattle.coretests.specs.Entries.{sound, between, Lighter};
 
 use crate::entry::Entry;
@@ -37,14 +37,4 @@ pub trait CoreTest {
 
     // Without its last entry an accepted list is accepted.
     ghost fewer: { (s : Self) (xs : List Entry) (x : Entry) → accepts s (xs ++ (x ∷ [])) → accepts s xs };
-}
-
-// The lesser of a limit and a number.
-pub(crate) fn shorter(limit: Option<u32>, n: u32) -> u32
-    ensures { Some result ≡ lesser limit (Some n) }
-{
-    match limit {
-        Some(l) => l.min(n),
-        None => n,
-    }
 }

@@ -1,60 +1,55 @@
 // Earliest deadline first.
-ghost use Rattle.std.specs.Prelude.{◌≡◌, ℕ, ◌+◌, ◌<◌, ◌≤◌, true};
-ghost use Rattle.span.specs.Spans.{span_of};
-ghost use Rattle.coretests.specs.Entries.{in_range, periods, sound};
-ghost use Rattle.coretests.specs.Edf.{entry_demand, demand, EdfAccepts, edf_limit, least_slack};
+ghost use Rattle.std.specs.Prelude.{◌≡◌, ℕ, ◌+◌, ◌<◌, ◌≤◌, MatchOption};
+ghost use Rattle.coretests.specs.Edf.{demand, slack, EdfAccepts, edf_limit, least_slack};
 ghost use Rattle.coretests.specs.Guard.{guard_unsound, guard_outside, guard_lighter};
 ghost use Rattle.coretests.specs.EdfLaws.{accepts_lighter, least_slack_lighter, accepts_front};
 ghost use Rattle.std.proofs.Common.{rules};
 
 use crate::core_test::CoreTest;
-use crate::entry::{Entry, askable_span, sound_span};
+use crate::entry::Entry;
+use crate::sound_list::SoundList;
 
-// The demand of one entry at t.
-fn demand_of(e: &Entry, t: u64) -> u64
-    requires t_small { t ≤ 1000000 }
-    requires e_in_range { in_range e.now ≡ true }
-    ensures value { result ≡ entry_demand t e.now }
-    ensures bound { result ≤ 2000000000000000 }
-{
-    let period = e.period as u64;
-    e.load as u64 * ((t + period - e.deadline as u64) / period)
-}
-
-// The demand of the list at t.
-fn demand_at(list: &[Entry], t: u64) -> u64
-    requires t_small { t ≤ 1000000 }
-    requires list_sound { sound list.now ≡ true }
-    ensures { result ≡ demand list.now t }
-{
-    let mut due = 0;
-    for x in list {
-        due += demand_of(x, t);
-    }
-    due
-}
-
-// A moment up to `top` after which, up to `top`, no slack is below `least`.
-// Where the work of one span is less than the span, span × demand(t) is at most work × t + lead, which grows more slowly than span × t.
-fn last_tight(list: &[Entry], span: u64, least: u64, top: u64) -> u64
-    requires list_sound { sound list.now ≡ true }
-    requires span_whole { span ≡ span_of (periods list.now) }
-    requires least_small { least ≤ 1000000 }
-    ensures within { result ≤ top }
-    ensures past { (s : ℕ) → result < s → s ≤ top → least + demand list.now s ≤ s }
-{
-    let mut work = 0;
-    let mut lead = 0;
-    for x in list {
-        let period = x.period as u64;
-        let share = x.load as u64 * (span / period);
-        work += share;
-        if work >= span {
-            return top;
+impl SoundList<'_> {
+    // The demand at t, unless it is above t.
+    #[tactic(auto, using(crate::specs::Soundness::in_range_at, crate::proofs::EdfSteps::demand_next))]
+    fn demand_within(&self, t: u32) -> Option<u32>
+        ensures { MatchOption result (t < demand self.now.entries.now t) (λ due. (due ≡ demand self.now.entries.now t) × (due ≤ t)) }
+    {
+        let mut left = u64::from(t);
+        for e in self.entries {
+            left = left.checked_sub(e.work(e.deadline, t))?;
         }
-        lead += share * (period - x.deadline as u64);
+        Some(t - left as u32)
     }
-    top.min((lead + least * span) / (span - work))
+
+    // What the demand leaves of t, and 0 where it is above t.
+    fn slack(&self, t: u32) -> u32
+        ensures { result ≡ slack self.now.entries.now t }
+    {
+        self.demand_within(t).map_or(0, |due| t - due)
+    }
+
+    // A moment up to `top` after which, up to `top`, no slack is below `least`.
+    // Where the work of one span is less than the span, span × demand(t) is at most work × t + lead, which grows more slowly than span × t.
+    #[tactic(auto, using(crate::specs::Soundness::in_range_at))]
+    fn last_tight(&self, least: u32, top: u32) -> u32
+        ensures within { result ≤ top }
+        ensures past { (s : ℕ) → result < s → s ≤ top → least + demand self.now.entries.now s ≤ s }
+    {
+        // With `u64::from` in place of `as` the goals of the products below stayed open.
+        let span = self.span as u64;
+        let mut work = 0;
+        let mut lead = 0;
+        for x in self.entries {
+            let share = x.load as u64 * (span / x.period as u64);
+            work += share;
+            if work >= span {
+                return top;
+            }
+            lead += share * (x.period - x.deadline) as u64;
+        }
+        ((lead + least as u64 * span) / (span - work)).min(top as u64) as u32
+    }
 }
 
 // The test by demand: what is due by t must fit before t, at every t.
@@ -78,17 +73,18 @@ impl CoreTest for Edf {
 
     ghost fewer = { λ s xs x m. accepts_front xs x m };
 
+    #[tactic(auto, using(crate::specs::Soundness::in_range_at))]
     fn holds(&self, list: &[Entry]) -> bool {
-        let Some(span) = sound_span(list) else {
+        let Some(list) = SoundList::new(list) else {
             return false;
         };
         // After one span the demand repeats, so the moments up to the span speak for all.
-        let mut t = last_tight(list, span as u64, 0, span as u64);
+        let mut t = list.last_tight(0, list.span);
         'moments: loop {
             let mut due = 0;
-            for e in list {
-                due += demand_of(e, t);
-                if due > t {
+            for e in list.entries {
+                due += e.work(e.deadline, t);
+                if due > t as u64 {
                     break 'moments false;
                 }
             }
@@ -96,35 +92,28 @@ impl CoreTest for Edf {
                 break true;
             }
             // No more is due at any moment from `due` to t, so all of them have room.
-            t = due - 1;
+            t = due as u32 - 1;
         }
     }
 
+    #[tactic(auto, using(crate::specs::Guard::guard_closed, crate::proofs::EdfSteps::limit_none, crate::proofs::EdfSteps::limit_from, crate::proofs::EdfSteps::slack_turn))]
     fn longest(&self, list: &[Entry], d: u32) -> Option<u32> {
-        let Some(span) = askable_span(list, d) else {
+        let Some(list) = SoundList::asked(list, d) else {
             return Some(0);
         };
-        let first = list.first()?.deadline as u64;
-        let last = d as u64 - 1;
+        let first = list.entries.first()?.deadline;
+        let last = d - 1;
         if last < first {
             return None;
         }
-        let mut best = first.saturating_sub(demand_at(list, first));
-        let mut t = last_tight(list, span as u64, best, last);
-        'moments: loop {
-            if t < first {
-                break Some(best as u32);
-            }
-            let mut due = 0;
-            for x in list {
-                due += demand_of(x, t);
-                if due >= t {
-                    break 'moments Some(0);
-                }
-            }
-            best = best.min(t - due);
-            // Every moment from `best + due` to t has a slack of `best` or more.
-            t = (best + due).saturating_sub(1);
+        let mut best = list.slack(first);
+        let mut t = list.last_tight(best, last);
+        while best > 0 && t >= first {
+            let slack = list.slack(t);
+            best = best.min(slack);
+            // Every moment from `t - slack + best` to t has a slack of `best` or more.
+            t = (t - slack + best).saturating_sub(1);
         }
+        Some(best)
     }
 }

@@ -1,9 +1,9 @@
 // The entries of a core, and which lists of them are sound.
-ghost use Rattle.std.specs.Prelude.{◌≡◌, true, false, MatchOption};
-ghost use Rattle.span.specs.Spans.{span_of};
-ghost use Rattle.coretests.specs.Entries.{between, in_range, ordered_from, periods, sound, askable};
+ghost use Rattle.std.specs.Prelude.{◌≡◌, ◌+◌, ◌-◌, ◌*◌, ◌/◌, ◌≤◌};
+ghost use Rattle.coretests.specs.Entries.{in_range, sound, askable};
+ghost use Rattle.coretests.specs.Soundness.{InRange};
 
-use span::span_of;
+use crate::sound_list::SoundList;
 
 pub mod periods;
 
@@ -17,73 +17,43 @@ pub const MAX_TICKS: u32 = 1_000_000;
 pub const MAX_LOAD: u32 = 1_000_000_000;
 
 // What a core test sees of a task.
-#[derive(Clone, Copy)]
+#[derive(Clone, Copy, Default)]
 pub struct Entry {
     pub period: u32,
     pub deadline: u32,
     pub load: u32,
 }
 
-// Whether a number is from low to high.
-fn is_between(low: u32, high: u32, n: u32) -> bool
-    ensures { result ≡ between low high n }
-{
-    low <= n && n <= high
-}
-
 impl Entry {
     pub fn in_range(&self) -> bool
         ensures { result ≡ in_range self.now }
     {
-        is_between(1, MAX_TICKS, self.period)
-            && is_between(1, self.period, self.deadline)
+        (1..=MAX_TICKS).contains(&self.period)
+            && (1..=self.period).contains(&self.deadline)
             && self.load <= MAX_LOAD
     }
-}
 
-// Whether every entry is in range and the deadlines do not fall.
-fn is_ordered(list: &[Entry]) -> bool
-    ensures { result ≡ ordered_from 0 list.now }
-{
-    let mut last = 0;
-    for e in list {
-        if !e.in_range() || e.deadline < last {
-            return false;
-        }
-        last = e.deadline;
+    // The load of each job that is `age` ticks old or older at t, where a job begins at 0 and after every period.
+    pub(crate) fn work(&self, age: u32, t: u32) -> u64
+        requires in_range { InRange self.now }
+        requires age_small { age ≤ self.now.period }
+        ensures value { result ≡ self.now.load * ((t + self.now.period - age) / self.now.period) }
+        ensures bound { result ≤ 4295967295000000000 }
+    {
+        let period = self.period as u64;
+        self.load as u64 * ((t as u64 + period - age as u64) / period)
     }
-    true
-}
-
-// The span of a sound list.
-pub(crate) fn sound_span(list: &[Entry]) -> Option<u32>
-    ensures { MatchOption result (sound list.now ≡ false) (λ m. (sound list.now ≡ true) × (m ≡ span_of (periods list.now))) }
-{
-    if list.len() > MAX_ENTRIES || !is_ordered(list) {
-        return None;
-    }
-    span_of(list)
 }
 
 pub fn is_sound(list: &[Entry]) -> bool
     ensures { result ≡ sound list.now }
 {
-    sound_span(list).is_some()
-}
-
-// The span of a sound list, asked about with a deadline in range.
-pub(crate) fn askable_span(list: &[Entry], d: u32) -> Option<u32>
-    ensures { MatchOption result (askable list.now d ≡ false) (λ m. (askable list.now d ≡ true) × (m ≡ span_of (periods list.now))) }
-{
-    if !is_between(1, MAX_TICKS, d) {
-        return None;
-    }
-    sound_span(list)
+    SoundList::new(list).is_some()
 }
 
 // Whether the list is sound and the asked deadline in range.
 pub fn is_askable(list: &[Entry], d: u32) -> bool
     ensures { result ≡ askable list.now d }
 {
-    askable_span(list, d).is_some()
+    SoundList::asked(list, d).is_some()
 }

@@ -1,59 +1,56 @@
 // Fixed priorities.
-ghost use Rattle.std.specs.Prelude.{◌≡◌, ◌≤◌, true, []};
-ghost use Rattle.std.specs.List.{AllByRecursion};
-ghost use Rattle.coretests.specs.Entries.{in_range};
-ghost use Rattle.coretests.specs.FixedPriority.{interference, tolerance, one_more, FixedAccepts, fixed_limit, least_tolerance};
+ghost use Rattle.std.specs.Prelude.{◌≡◌, ◌<◌, ◌≤◌, [], length, MatchOption, slice_index_or};
+ghost use Rattle.coretests.specs.FixedPriority.{FixedAccepts, fixed_limit, least_tolerance};
+ghost use Rattle.coretests.specs.Soundness.{blank};
+ghost use Rattle.coretests.specs.Tolerances.{workload_of, tolerance_of};
 ghost use Rattle.coretests.specs.Guard.{guard_unsound, guard_outside, guard_lighter};
 ghost use Rattle.coretests.specs.FixedLaws.{fixed_lighter, least_lighter, fixed_front};
 ghost use Rattle.std.proofs.Common.{rules};
 
-use crate::core_test::{CoreTest, shorter};
-use crate::entry::{Entry, is_askable, is_sound};
+use crate::core_test::CoreTest;
+use crate::entry::Entry;
+use crate::sound_list::SoundList;
 
-// The work that an entry of higher priority may ask for before t.
-fn interference_of(e: &Entry, t: u64) -> u64
-    requires t_small { t ≤ 1000000 }
-    requires e_in_range { in_range e.now ≡ true }
-    ensures value { result ≡ interference t e.now }
-    ensures bound { result ≤ 2000000000000000 }
-{
-    let period = e.period as u64;
-    e.load as u64 * ((t + period - 1) / period)
-}
-
-// One more than the tolerance of `e` behind the entries before it, or 0 where it has none.
-fn least_not_tolerated(before: &[Entry], e: &Entry) -> u32
-    requires before_in_range { AllByRecursion (λ x. in_range x ≡ true) before.now }
-    requires e_in_range { in_range e.now ≡ true }
-    ensures { result ≡ one_more (tolerance before.now e.now) }
-{
-    let deadline = e.deadline as u64;
-    let mut need: u64 = 0;
-    let mut t: u64 = 1;
-    'moments: loop {
-        if t > deadline {
-            break need as u32;
+impl SoundList<'_> {
+    // The work before t of one job of the entry at k and of the entries before it, unless it is above the entry's deadline.
+    #[tactic(auto, using(crate::specs::Soundness::front_in_range_at, crate::specs::Tolerances::workload_next))]
+    fn workload_within(&self, k: usize, t: u32) -> Option<u32>
+        requires { k < length self.now.entries.now }
+        ensures { MatchOption result
+            ((slice_index_or self.now.entries.now k blank).deadline < workload_of self.now.entries.now k t)
+            (λ work. (work ≡ workload_of self.now.entries.now k t) × (work ≤ (slice_index_or self.now.entries.now k blank).deadline)) }
+    {
+        // One loop for this and `demand_within` would take the start, the part of the list and the age from outside, by a closure.
+        let e = &self.entries[k];
+        let mut left = u64::from(e.deadline).checked_sub(u64::from(e.load))?;
+        for x in &self.entries[..k] {
+            left = left.checked_sub(x.work(1, t))?;
         }
-        let mut work = e.load as u64;
-        for x in before {
-            if work > deadline {
-                break 'moments need as u32;
-            }
-            work += interference_of(x, t);
-        }
-        need = need.max((t + 1).saturating_sub(work));
-        // No moment from t to before `work + need` leaves room for `need`.
-        t = work + need;
+        Some(e.deadline - left as u32)
     }
-}
 
-// The largest blocking that `e` tolerates behind the entries before it.
-fn tolerance_of(before: &[Entry], e: &Entry) -> Option<u32>
-    requires before_in_range { AllByRecursion (λ x. in_range x ≡ true) before.now }
-    requires e_in_range { in_range e.now ≡ true }
-    ensures { result ≡ tolerance before.now e.now }
-{
-    least_not_tolerated(before, e).checked_sub(1)
+    // The largest blocking that the entry at k tolerates behind the entries before it.
+    #[tactic(auto, using(crate::specs::Soundness::in_range_at, crate::proofs::Found::search_start))]
+    fn tolerance(&self, k: usize) -> Option<u32>
+        requires { k < length self.now.entries.now }
+        ensures { result ≡ tolerance_of self.now.entries.now k }
+    {
+        let deadline = self.entries[k].deadline;
+        let mut found = None;
+        let mut t = 1;
+        while t <= deadline {
+            let Some(work) = self.workload_within(k, t) else {
+                return found;
+            };
+            found = found.max(t.checked_sub(work));
+            // No moment from t to before the next one leaves room for more than is found.
+            t = match found {
+                Some(b) => work + b + 1,
+                None => work,
+            };
+        }
+        found
+    }
 }
 
 // The test by tolerance: every entry must have room for some blocking, be it 0.
@@ -78,25 +75,19 @@ impl CoreTest for FixedPriority {
     ghost fewer = { λ s xs x m. fixed_front xs x m };
 
     fn holds(&self, list: &[Entry]) -> bool {
-        if !is_sound(list) {
+        let Some(list) = SoundList::new(list) else {
             return false;
-        }
-        for (k, e) in list.iter().enumerate() {
-            if tolerance_of(&list[0..k], e).is_none() {
-                return false;
-            }
-        }
-        true
+        };
+        (0..list.entries.len()).all(|k| list.tolerance(k).is_some())
     }
 
+    #[tactic(auto, using(crate::specs::Guard::guard_closed))]
     fn longest(&self, list: &[Entry], d: u32) -> Option<u32> {
-        if !is_askable(list, d) {
+        let Some(list) = SoundList::asked(list, d) else {
             return Some(0);
-        }
-        let mut best = None;
-        for (k, e) in list.iter().enumerate() {
-            best = Some(shorter(best, tolerance_of(&list[0..k], e).unwrap_or(0)));
-        }
-        best
+        };
+        (0..list.entries.len())
+            .map(|k| list.tolerance(k).unwrap_or(0))
+            .min()
     }
 }

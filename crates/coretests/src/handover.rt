@@ -1,5 +1,6 @@
 // Time for a handover in each job, over another test.
-ghost use Rattle.std.specs.Prelude.{◌≡◌, ◌<◌, true, [], ◌∷◌, length, take};
+ghost use Rattle.std.specs.Prelude.{◌≡◌, true, [], ◌∷◌};
+ghost use Rattle.bounded.specs.Lists.{list_of};
 ghost use Rattle.coretests.specs.Entries.{sound};
 ghost use Rattle.coretests.specs.Layers.{clamped, raised, handed_over, raise};
 ghost use Rattle.coretests.specs.Handovers.{handed_unsound, handed_zero, raised_lighter, handed_lighter, raised_push};
@@ -7,12 +8,14 @@ ghost use Rattle.coretests.specs.Soundness.{sound_lighter, sound_front};
 ghost use Rattle.std.proofs.Common.{rules};
 
 use crate::core_test::CoreTest;
-use crate::entry::{Entry, MAX_ENTRIES, is_sound};
+use crate::entry::{Entry, MAX_ENTRIES};
+use crate::sound_list::SoundList;
+use bounded::Bounded;
 
 // The greatest handover.
 const MAX_HANDOVER: u32 = 10_000;
 
-// The test below, asked with every load raised by `h`. A width of 16 bits keeps a raised load between its type.
+// The test below, asked with every load raised by `h`. A width of 16 bits keeps a raised load within its type.
 #[derive(Clone, Copy)]
 pub struct Handover<C> {
     below: C,
@@ -27,30 +30,26 @@ impl<C: CoreTest> Handover<C> {
     {
         Handover {
             below,
-            h: h.clamp(0, MAX_HANDOVER) as u16,
+            h: h.min(MAX_HANDOVER) as u16,
         }
     }
 }
 
-// The list with every load raised by h, in the front of an array.
-fn raise_all(list: &[Entry], h: u32) -> [Entry; MAX_ENTRIES]
-    requires list_sound { sound list.now ≡ true }
-    requires h_small { h < 65536 }
-    ensures { take (length list.now) result ≡ raised h list.now }
-{
-    let mut all = [Entry {
-        period: 1,
-        deadline: 1,
-        load: 0,
-    }; MAX_ENTRIES];
-    for (i, e) in list.iter().enumerate() {
-        all[i] = Entry {
-            period: e.period,
-            deadline: e.deadline,
-            load: e.load + h,
-        };
+impl SoundList<'_> {
+    // The list with every load raised by h.
+    #[tactic(auto, using(crate::specs::Soundness::in_range_at))]
+    fn raised(&self, h: u16) -> Bounded<Entry, MAX_ENTRIES>
+        ensures { list_of result ≡ raised h self.now.entries.now }
+    {
+        let mut all = Bounded::default();
+        for e in self.entries {
+            // With `u32::from` in place of `as` the goal of this sum stayed open.
+            let load = e.load + h as u32;
+            // A sound list has room.
+            let _ = all.push(Entry { load, ..*e });
+        }
+        all
     }
-    all
 }
 
 impl<C: CoreTest> CoreTest for Handover<C> {
@@ -72,19 +71,20 @@ impl<C: CoreTest> CoreTest for Handover<C> {
 
     fn holds(&self, list: &[Entry]) -> bool {
         // A sound list is short and light enough to be raised.
-        if !is_sound(list) {
+        let Some(list) = SoundList::new(list) else {
             return false;
-        }
-        let all = raise_all(list, self.h as u32);
-        self.below.holds(&all[0..list.len()])
+        };
+        let raised = list.raised(self.h);
+        self.below.holds(raised.as_slice())
     }
 
+    #[tactic(auto, using(crate::specs::Handovers::handed_unsound))]
     fn longest(&self, list: &[Entry], d: u32) -> Option<u32> {
-        if !is_sound(list) {
+        let Some(list) = SoundList::new(list) else {
             return Some(0);
-        }
-        let all = raise_all(list, self.h as u32);
-        let limit = self.below.longest(&all[0..list.len()], d)?;
+        };
+        let raised = list.raised(self.h);
+        let limit = self.below.longest(raised.as_slice(), d)?;
         Some(limit.saturating_sub(self.h as u32))
     }
 }

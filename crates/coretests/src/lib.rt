@@ -9,6 +9,7 @@ pub mod entry;
 pub mod fixed_priority;
 pub mod handover;
 pub mod meaning;
+mod sound_list;
 
 pub use cap::Cap;
 pub use core_test::CoreTest;

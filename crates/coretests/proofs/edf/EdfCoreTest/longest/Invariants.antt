@@ -1,17 +1,12 @@
-use Rattle.std.proofs.Common.{◌≡◌, ◌+◌, ◌-◌, ◌<◌, ◌≤◌, take, Some}
+use Rattle.std.proofs.Common.{◌≡◌, ◌+◌, ◌-◌, ◌≤◌, Some}
 use Rattle.coretests.specs.Limits.{lesser, least}
-use Rattle.coretests.specs.Edf.{demand, slack, edf_limit}
+use Rattle.coretests.specs.Edf.{slack, edf_limit}
 use Rattle.coretests.proofs.edf.EdfCoreTest.longest.Given as goal
 
--- the work of the first entries
-abbrev pub invariant-loop-x : goal.invariant-loop-x
-invariant-loop-x l = (l.due ≡ demand (take l.x-index l.list) l.t) × (l.due < l.t)
-
 -- the least slack so far and those left give the limit
-abbrev pub invariant-moments : goal.invariant-moments
-invariant-moments l =
-    (1 ≤ l.first) × (l.t ≤ 1000000) × (l.best ≤ 1000000)
-    × (lesser (Some l.best) (least (slack l.list) l.first (l.t + 1 - l.first)) ≡ edf_limit l.list l.d)
+abbrev pub invariant-loop-best : goal.invariant-loop-best
+invariant-loop-best l =
+    (1 ≤ l.first) × (lesser (Some l.best) (least (slack l.list.entries.now) l.first (l.t + 1 - l.first)) ≡ edf_limit l.fn.list l.d)
 
-abbrev pub decreases-moments : goal.decreases-moments
-decreases-moments l = l.t
+abbrev pub decreases-loop-best : goal.decreases-loop-best
+decreases-loop-best l = l.t
