@@ -1,3 +1,4 @@
 pub mod Refusing
 pub mod Rows
 pub mod Regions
+pub mod Searching

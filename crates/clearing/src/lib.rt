@@ -17,6 +17,7 @@ mod tests {
     use std::test::Fail;
     use tasks::{Draft, MAX_POINTS, Proposal, Refusal, Sealed};
 
+    // As in the tests of plan_cases, since those of two crates share no module.
     fn task<'a>(
         id: u32,
         period: u32,
@@ -48,12 +49,17 @@ mod tests {
         Row { core, cuts }
     }
 
-    // The number and place of the refusal, or 0 and 0; and how many rows `cleared` then holds.
-    fn told(table: &Sealed, rows: &[Row], cleared: &mut Cleared) -> (u8, usize, usize) {
-        match clear(table, rows, cleared) {
-            Ok(()) => (0, 0, cleared.rows().len()),
-            Err(refusal) => (refusal.number(), refusal.at(), cleared.rows().len()),
-        }
+    // The number and place of the refusal, if there is one; and how many rows `cleared` then holds.
+    fn told(
+        table: &Sealed,
+        rows: &[Row],
+        cleared: &mut Cleared,
+    ) -> (Result<(), (u8, usize)>, usize) {
+        let answer = clear(table, rows, cleared).map_err(|refusal| (
+            refusal.number(),
+            refusal.at(),
+        ));
+        (answer, cleared.rows().len())
     }
 
     #[test]
@@ -66,19 +72,22 @@ mod tests {
         let mut cleared = Cleared::new();
         let whole = row(1, false);
         let cut = row(1, true);
-        assert_eq!(rt; told(&table, &[whole], &mut cleared), (10, 0, 0));
-        assert_eq!(rt; told(&table, &[whole, cut, cut], &mut cleared), (10, 0, 0));
+        assert_eq!(rt; told(&table, &[whole], &mut cleared), (Err((10, 0)), 0));
+        assert_eq!(rt;
+            told(&table, &[whole, cut, cut], &mut cleared),
+            (Err((10, 0)), 0)
+        );
         assert_eq!(rt;
             told(&table, &[row(0, true), cut], &mut cleared),
-            (10, 1, 0)
+            (Err((10, 1)), 0)
         );
         assert_eq!(rt;
             told(&table, &[whole, row(3, true)], &mut cleared),
-            (10, 2, 0)
+            (Err((10, 2)), 0)
         );
         assert_eq!(rt;
             told(&table, &[cut, row(0, true)], &mut cleared),
-            (11, 1, 0)
+            (Err((11, 1)), 0)
         );
         assert_eq!(rt; cleared.table().cores(), 1);
         Ok(())
@@ -91,8 +100,8 @@ mod tests {
         let long = pair(1, &task(5, 20, 4, &[1], &[]), &task(8, 10, 10, &[4], &[]))?;
         let rows = [row(1, false), row(1, false)];
         let mut cleared = Cleared::new();
-        assert_eq!(rt; told(&fits, &rows, &mut cleared), (0, 0, 2));
-        assert_eq!(rt; told(&long, &rows, &mut cleared), (12, 2, 2));
+        assert_eq!(rt; told(&fits, &rows, &mut cleared), (Ok(()), 2));
+        assert_eq!(rt; told(&long, &rows, &mut cleared), (Err((12, 2)), 2));
         let tasks = cleared.table().tasks();
         assert!(rt; tasks.len() == 2);
         assert_eq!(rt; tasks[1].id, 7);
@@ -106,19 +115,19 @@ mod tests {
         let mut cleared = Cleared::new();
         assert_eq!(rt;
             told(&table, &[row(1, false), row(1, true)], &mut cleared),
-            (13, 1, 0)
+            (Err((13, 1)), 0)
         );
         assert_eq!(rt;
             told(&table, &[row(2, false), row(2, true)], &mut cleared),
-            (13, 2, 0)
+            (Err((13, 2)), 0)
         );
         assert_eq!(rt;
             told(&table, &[row(2, false), row(2, false)], &mut cleared),
-            (12, 2, 0)
+            (Err((12, 2)), 0)
         );
         assert_eq!(rt;
             told(&table, &[row(1, false), row(2, false)], &mut cleared),
-            (0, 0, 2)
+            (Ok(()), 2)
         );
         Ok(())
     }

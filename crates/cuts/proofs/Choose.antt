@@ -1,8 +1,9 @@
 -- The backward recursion over the points finds the chosen cuts. Assumes nothing.
-use Rattle.std.proofs.Common.{◌≡◌, ℕ, zero, suc, ◌+◌, ◌-◌, ◌≤◌, Bool, true, false, cond, leb, List, [], ◌∷◌, ◌++◌, map, length, set, replicate, Some, None, Option, sym, refl, ap, ◌∙◌, subst, inl, inr, add-one, arith}
+use Rattle.std.proofs.Common.{◌≡◌, ℕ, zero, suc, ◌+◌, ◌-◌, ◌≤◌, Bool, true, false, cond, leb, List, [], ◌∷◌, ◌++◌, map, length, set, replicate, Some, None, Option, sym, refl, ap, ◌∙◌, subst, inr, add-one, arith}
 use Rattle.std.specs.List.{AllByRecursion}
 use Rattle.std.proofs.lemmas.List.{replicate-append-replicate}
-use Rattle.std.proofs.lemmas.Bool.{leb-true, leb-false, cond_both, cases_lt}
+use Rattle.std.proofs.lemmas.Grind.{common_steps}
+use Rattle.std.proofs.lemmas.Bool.{leb-true, leb-false, cond_both}
 use Rattle.tasks.specs.Cuts.{regions_from, cost_at}
 use Rattle.cuts.specs.declared.types.Cuts.{Cuts}
 use Rattle.cuts.specs.Orders.{NoLater, mark}
@@ -40,29 +41,11 @@ beyond_falses zero = refl
 beyond_falses (suc k) = beyond_falses k
 
 falses_more : (e : ℕ) (fs : List Bool) → replicate (suc e) false ++ fs ≡ replicate e false ++ (false ∷ fs)
-falses_more zero fs = refl
-falses_more (suc e) fs = ap (λ l. false ∷ l) (falses_more e fs)
+falses_more e fs = grind (arith, common_steps)
 
 falses_set : (e : ℕ) (fs : List Bool) → set (replicate (suc e) false ++ fs) e true ≡ replicate e false ++ (true ∷ fs)
 falses_set zero fs = refl
 falses_set (suc e) fs = ap (λ l. false ∷ l) (falses_set e fs)
-
-later_head : (x y : ℕ) (xs ys : List ℕ) → NoLater (x ∷ xs) (y ∷ ys) → x ≤ y
-later_head x y xs ys (inl h) = omega arith
-later_head x y xs ys (inr d) = omega arith
-
--- the same number more in front, and the same number put in second
-later_with : (k x y z : ℕ) (xs ys : List ℕ) → NoLater (x ∷ xs) (y ∷ ys) → NoLater ((k + x) ∷ (z ∷ xs)) ((k + y) ∷ (z ∷ ys))
-later_with k x y z xs ys (inl h) = inl (omega arith)
-later_with k x y z xs ys (inr d) = inr (omega arith, inr (refl, d.1))
-
-later_stay : (x y z : ℕ) (xs ys : List ℕ) → NoLater (x ∷ xs) (y ∷ ys) → NoLater (x ∷ (z ∷ xs)) (y ∷ (z ∷ ys))
-later_stay x y z xs ys (inl h) = inl h
-later_stay x y z xs ys (inr d) = inr (d.0, inr (refl, d.1))
-
--- of two that cost the same, the one that goes on comes first
-later_first : (x y : ℕ) (xs ys : List ℕ) → x ≤ y → NoLater (x ∷ (0 ∷ xs)) (y ∷ (1 ∷ ys))
-later_first x y xs ys h = elim (cases_lt x y) [ inl l ↦ inl l | inr g ↦ inr (omega arith, inl (omega arith)) ]
 
 module _ (limit : Option ℕ) (n e b p : ℕ) (bs ps : List ℕ) where
   -- flags that are missing are none
@@ -73,9 +56,6 @@ module _ (limit : Option ℕ) (n e b p : ℕ) (bs ps : List ℕ) where
   by_head R cutting staying [] a = subst (λ (k : ℕ). NoLater R (k ∷ (0 ∷ map mark (flags_at ps [])))) (cost-none ps) (staying [] a)
   by_head R cutting staying (true ∷ gs) a = cutting gs a
   by_head R cutting staying (false ∷ gs) a = staying gs a
-
-  head_cost : (fs gs : List Bool) → NoLater (rank ps fs) (rank ps gs) → cost_at ps fs ≤ cost_at ps gs
-  head_cost fs gs d = later_head (cost_at ps fs) (cost_at ps gs) (map mark (flags_at ps fs)) (map mark (flags_at ps gs)) d
 
   -- the region goes on at p, and nothing that ends it there is better
   stay_chosen : (s : Cuts) (h : Chosen limit (n + b) (e + 1) bs ps s)
@@ -88,7 +68,7 @@ module _ (limit : Option ℕ) (n e b p : ℕ) (bs ps : List ℕ) where
         cost_is = h.cost_is;
         at_points_lem = h.at_points_lem;
         short = h.short;
-        least = by_head (rank (p ∷ ps) (false ∷ h.fs)) cutting (λ gs a. later_stay (cost_at ps h.fs) (cost_at ps gs) 0 (map mark (flags_at ps h.fs)) (map mark (flags_at ps gs)) (h.least gs a));
+        least = by_head (rank (p ∷ ps) (false ∷ h.fs)) cutting (λ gs a. let better = h.least gs a in grind arith);
       }
 
   -- the region ends at p, and nothing that goes on there is better
@@ -102,7 +82,7 @@ module _ (limit : Option ℕ) (n e b p : ℕ) (bs ps : List ℕ) where
         cost_is = omega (arith, h.cost_is);
         at_points_lem = h.at_points_lem;
         short = (w, h.short);
-        least = by_head (rank (p ∷ ps) (true ∷ h.fs)) (λ gs a. later_with p (cost_at ps h.fs) (cost_at ps gs) 1 (map mark (flags_at ps h.fs)) (map mark (flags_at ps gs)) (h.least gs a.1)) staying;
+        least = by_head (rank (p ∷ ps) (true ∷ h.fs)) (λ gs a. let better = h.least gs a.1 in grind arith) staying;
       }
 
   -- no cut at p is allowed
@@ -122,9 +102,8 @@ module _ (limit : Option ℕ) (n e b p : ℕ) (bs ps : List ℕ) where
   step true is (Some c) None h k = cut_chosen c h (within_true limit n is) (λ gs a. absurd (k gs a))
   step true is (Some c) (Some s) h k =
       cond_both (leb s.cost (c.cost + p)) (Some s) (with_cut e p (Some c)) (Answer limit n e (b ∷ bs) (p ∷ ps))
-      (λ le. stay_chosen s k (λ gs a. later_first (cost_at ps k.fs) (p + cost_at ps gs) (map mark (flags_at ps k.fs)) (map mark (flags_at ps gs))
-      (omega (arith, leb-true s.cost (c.cost + p) le, h.cost_is, k.cost_is, head_cost h.fs gs (h.least gs a.1)))))
-      (λ gt. cut_chosen c h (within_true limit n is) (λ gs a. inl (omega (arith, leb-false s.cost (c.cost + p) gt, h.cost_is, k.cost_is, head_cost k.fs gs (k.least gs a)))))
+      (λ le. stay_chosen s k (λ gs a. let cut = h.least gs a.1 in let no_dearer = leb-true s.cost (c.cost + p) le in grind arith))
+      (λ gt. cut_chosen c h (within_true limit n is) (λ gs a. let stay = k.least gs a in let dearer = leb-false s.cost (c.cost + p) gt in grind arith))
 
 pub best_chosen : (limit : Option ℕ) (n e : ℕ) (bs ps : List ℕ) → length bs ≡ length ps → e + length ps ≤ 15 → Answer limit n e bs ps (best_from limit n e bs ps)
 best_chosen limit n e [] [] m l =

@@ -1,46 +1,26 @@
 -- The table of the backward programme, point by point, and what the programme ends with. Assumes nothing.
-use Rattle.std.proofs.Common.{◌≡◌, ℕ, ◌+◌, ◌<◌, ◌≤◌, Bool, true, false, cond, leb, List, length, get_or, drop, set, IfSome, Some, None, Option, sym, refl, ap, ◌∙◌, subst, inl, inr, arith}
+use Rattle.std.proofs.Common.{◌≡◌, ℕ, ◌+◌, ◌<◌, ◌≤◌, Bool, true, false, cond, ◌⊎◌, List, [], ◌∷◌, length, get_or, drop, set, replicate, IfSome, Some, None, Option, sym, refl, ap, ◌∙◌, subst, inl, inr, arith}
+use Rattle.std.specs.Array.{AllOfLen}
 use Rattle.std.specs.List.{AllByRecursion}
 use Rattle.std.proofs.ByRecursion.{All-drop}
-use Rattle.std.proofs.lemmas.List.{drop_more, at_drop_all, length-drop, get_or-set_same, get_or-set_other}
-use Rattle.std.proofs.lemmas.Bool.{leb-true, leb-false, le-leb, lt-leb, cond-true, cond-false, cond_both, cases_Bool, cases_eq}
+use Rattle.std.proofs.lemmas.List.{drop_more, at_drop_all, length-drop, same_lists, get_or-replicate, get_or-set_same, get_or-set_other}
+use Rattle.std.proofs.lemmas.Bool.Decides.{nat_tests}
+use Rattle.std.proofs.lemmas.Bool.{cases_eq, cases_lt}
 use Rattle.tasks.specs.Tasks.{Task}
 use Rattle.tasks.specs.Cuts.{regions_from, regions, cut_cost}
 use Rattle.cuts.specs.declared.types.Cuts.{Cuts}
 use Rattle.cuts.specs.Allowed.{Within, within, LeastCuts}
 use Rattle.cuts.specs.Best.{BestCuts}
 use Rattle.cuts.specs.Dynamic.{cheaper_of, with_cut, uncut, best_from, best_at, best_cut_at, Known}
-use Rattle.cuts.proofs.Ranges.{Ranges, in_blocks, cost_at_most}
-use Rattle.cuts.proofs.Regions.{regions-start}
+use Rattle.cuts.proofs.Ranges.{Ranges, in_blocks, block_after, cost_at_most}
+use Rattle.cuts.proofs.Steps.{regions-start}
 use Rattle.cuts.proofs.Choose.{Answer, best_chosen}
-
-second : (x y : Cuts) → y.cost ≤ x.cost → cheaper_of (Some x) (Some y) ≡ Some y
-second x y h = cond-true (leb y.cost x.cost) (Some y) (Some x) (le-leb y.cost x.cost h)
-
-first : (x y : Cuts) → x.cost < y.cost → cheaper_of (Some x) (Some y) ≡ Some x
-first x y h = cond-false (leb y.cost x.cost) (Some y) (Some x) (lt-leb y.cost x.cost h)
 
 cheaper_assoc : (a b c : Option Cuts) → cheaper_of (cheaper_of a b) c ≡ cheaper_of a (cheaper_of b c)
 cheaper_assoc None b c = refl
 cheaper_assoc (Some x) None c = refl
-cheaper_assoc (Some x) (Some y) None = cond_both (leb y.cost x.cost) (Some y) (Some x) (λ o. cheaper_of o None ≡ o) (λ _. refl) (λ _. refl)
-cheaper_assoc (Some x) (Some y) (Some z) =
-    elim (cases_Bool (leb y.cost x.cost)) [
-      | inl p ↦ elim (cases_Bool (leb z.cost y.cost)) [
-        | inl q ↦ left (Some y) (second x y (leb-true _ _ p)) ∙ second y z (leb-true _ _ q) ∙ sym (right (Some z) (second y z (leb-true _ _ q)) ∙ second x z (omega (arith, leb-true y.cost x.cost p, leb-true z.cost y.cost q)))
-        | inr q ↦ left (Some y) (second x y (leb-true _ _ p)) ∙ first y z (leb-false _ _ q) ∙ sym (right (Some y) (first y z (leb-false _ _ q)) ∙ second x y (leb-true _ _ p))
-      ]
-      | inr p ↦ elim (cases_Bool (leb z.cost y.cost)) [
-        | inl q ↦ left (Some x) (first x y (leb-false _ _ p)) ∙ sym (right (Some z) (second y z (leb-true _ _ q)))
-        | inr q ↦ left (Some x) (first x y (leb-false _ _ p)) ∙ first x z (omega (arith, leb-false y.cost x.cost p, leb-false z.cost y.cost q)) ∙ sym (right (Some y) (first y z (leb-false _ _ q)) ∙ first x y (leb-false _ _ p))
-      ]
-    ]
-  where
-    left : (o : Option Cuts) → cheaper_of (Some x) (Some y) ≡ o → cheaper_of (cheaper_of (Some x) (Some y)) (Some z) ≡ cheaper_of o (Some z)
-    left o e = ap (λ (k : Option Cuts). cheaper_of k (Some z)) e
-
-    right : (o : Option Cuts) → cheaper_of (Some y) (Some z) ≡ o → cheaper_of (Some x) (cheaper_of (Some y) (Some z)) ≡ cheaper_of (Some x) o
-    right o e = ap (cheaper_of (Some x)) e
+cheaper_assoc (Some x) (Some y) None = grind (arith, nat_tests)
+cheaper_assoc (Some x) (Some y) (Some z) = grind (arith, nat_tests)
 
 -- a candidate that counts only under a test
 under_test : (v : Bool) (found more : Option Cuts) → cond v (cheaper_of found more) found ≡ cheaper_of found (cond v more None)
@@ -56,11 +36,24 @@ known_more limit t memo j o l known is e le lt =
       | inr other ↦ get_or-set_other memo j e o None other ∙ known e (omega arith) lt
     ]
 
--- what the programme puts in, from the task's own lists
-pub cut_known : (limit : Option ℕ) (t : Task) (bs ps : List ℕ) (j : ℕ) (rest o : Option Cuts) → bs ≡ t.blocks → ps ≡ t.points
-    → rest ≡ best_at limit t (get_or ps j 0 + get_or bs (j + 1) 0) (j + 1) → o ≡ with_cut j (get_or ps j 0) rest → o ≡ best_cut_at limit t j
-cut_known limit t bs ps j rest o blocks-are points-are is x =
-    x ∙ ap (with_cut j (get_or ps j 0)) is ∙ (λ i. with_cut j (get_or (points-are i) j 0) (best_at limit t (get_or (points-are i) j 0 + get_or (blocks-are i) (j + 1) 0) (j + 1)))
+-- what the programme puts in, one point before `from`
+pub cut_known : (limit : Option ℕ) (t : Task) (j from cost block : ℕ) (rest o : Option Cuts) → from ≡ j + 1 → cost ≡ get_or t.points j 0 → block ≡ get_or t.blocks from 0
+    → rest ≡ best_at limit t (cost + block) from → o ≡ with_cut j cost rest → o ≡ best_cut_at limit t j
+cut_known limit t j from cost block rest o at cost-is block-is is x = cc
+
+-- no cuts are those that no flag says
+pub default_uncut : (c : Cuts) → (c.cost ≡ 0) × AllOfLen (λ f. f ≡ false) c.flags 15 → c ≡ uncut
+default_uncut c h =
+    let flags : c.flags ≡ replicate 15 false = same_lists c.flags (replicate 15 false) h.1.long (λ k d lt. let in_flags : k < 15 = omega (arith, h.1.long) in h.1.at k d in_flags ∙ sym (get_or-replicate 15 k false d in_flags)) in
+    λ i. record { cost = h.0 i; flags = flags i }
+
+-- the element that a walk has come to
+turn_at : {X : Type 0} (xs rest : List X) (x d : X) (e : ℕ) → drop e xs ≡ x ∷ rest → (e < length xs) × (get_or xs e d ≡ x) × (rest ≡ drop (e + 1) xs)
+turn_at xs rest x d e is =
+    elim (cases_lt e (length xs)) [
+      | inl h ↦ let more = drop_more xs e d h in (h, cc, cc)
+      | inr h ↦ absurd (omega (arith, ap length is, length-drop e xs))
+    ]
 
 module _ (limit : Option ℕ) (t : Task) (r : Ranges t.blocks t.points) where
   -- the region under way ends at point e, or goes on
@@ -71,7 +64,7 @@ module _ (limit : Option ℕ) (t : Task) (r : Ranges t.blocks t.points) where
   best_end : (n e : ℕ) → length t.points ≤ e → best_at limit t n e ≡ cond (within limit n) (Some uncut) None
   best_end n e h = at_drop_all (λ bs. best_from limit n e bs (drop e t.points)) t.blocks (e + 1) (omega (arith, r.fewer))
 
-  pub scan_more : (n e : ℕ) (v : Bool) (found next : Option Cuts) → e < length t.points → v ≡ within limit n → next ≡ cond v (cheaper_of found (best_cut_at limit t e)) found
+  scan_more : (n e : ℕ) (v : Bool) (found next : Option Cuts) → e < length t.points → v ≡ within limit n → next ≡ cond v (cheaper_of found (best_cut_at limit t e)) found
       → cheaper_of next (best_at limit t (n + get_or t.blocks (e + 1) 0) (e + 1)) ≡ cheaper_of found (best_at limit t n e)
   scan_more n e v found next h is x =
       let rest = best_at limit t (n + get_or t.blocks (e + 1) 0) (e + 1) in
@@ -80,6 +73,26 @@ module _ (limit : Option ℕ) (t : Task) (r : Ranges t.blocks t.points) where
       ∙ cheaper_assoc found (cond v ending None) rest
       ∙ ap (λ (u : Bool). cheaper_of found (cheaper_of (cond u ending None) rest)) is
       ∙ ap (cheaper_of found) (sym (best_more n e h))
+
+  -- one turn of the walk, which has come to point e with the block b after it
+  pub scan_turn : (n e b : ℕ) (bs : List ℕ) (memo ms : List (Option Cuts)) (ending : Option Cuts) (v : Bool) (found next : Option Cuts)
+      → drop (e + 1) t.blocks ≡ b ∷ bs → drop e memo ≡ ending ∷ ms → Known limit t memo e → v ≡ within limit n → next ≡ cond v (cheaper_of found ending) found
+      → (b ≤ 1000000) × (bs ≡ drop (e + 1 + 1) t.blocks) × (ms ≡ drop (e + 1) memo) × (cheaper_of next (best_at limit t (n + b) (e + 1)) ≡ cheaper_of found (best_at limit t n e))
+  scan_turn n e b bs memo ms ending v found next row table known h x =
+      let here = turn_at t.blocks bs b 0 (e + 1) row in
+      let there = turn_at memo ms ending None e table in
+      let in_points : e < length t.points = omega (arith, here.0, r.fewer) in
+      let best : ending ≡ best_cut_at limit t e = sym there.1 ∙ known e (omega arith) in_points in (
+        omega (arith, here.1, block_after r e in_points),
+        here.2,
+        there.2,
+        (λ i. cheaper_of next (best_at limit t (n + sym here.1 i) (e + 1))) ∙ scan_more n e v found next in_points h (x ∙ ap (λ o. cond v (cheaper_of found o) found) best),
+      )
+
+  -- the walk ends with the blocks or with the memo
+  pub scan_past : (e : ℕ) (bs : List ℕ) (memo ms : List (Option Cuts)) → bs ≡ drop (e + 1) t.blocks → ms ≡ drop e memo → length memo ≡ 15 → (bs ≡ []) ⊎ (ms ≡ []) → length t.points ≤ e
+  scan_past e bs memo ms row table full (inl none) = omega (arith, ap length row, ap length none, length-drop (e + 1) t.blocks, r.fewer)
+  scan_past e bs memo ms row table full (inr none) = omega (arith, ap length table, ap length none, length-drop e memo, r.few, r.fewer)
 
   pub scan_end : (n e : ℕ) (v : Bool) (found next : Option Cuts) → length t.points ≤ e → v ≡ within limit n → next ≡ cond v (cheaper_of found (Some uncut)) found → next ≡ cheaper_of found (best_at limit t n e)
   scan_end n e v found next h is x =
@@ -91,8 +104,8 @@ module _ (limit : Option ℕ) (t : Task) (r : Ranges t.blocks t.points) where
       let ps = length-drop e t.points in
       best_chosen limit n e (drop (e + 1) t.blocks) (drop e t.points) (omega (arith, bs, ps, r.fewer)) (omega (arith, ps, r.few, r.fewer))
 
-  pub best_bound : (n e : ℕ) → e ≤ length t.points → IfSome (best_at limit t n e) (λ c. c.cost ≤ 15000000)
-  best_bound n e h = go (best_at limit t n e) (best_answer n e h)
+  pub best_bound : (n e : ℕ) (o : Option Cuts) → o ≡ best_at limit t n e → e ≤ length t.points → IfSome o (λ c. c.cost ≤ 15000000)
+  best_bound n e o is h = go o (subst (Answer limit n e (drop (e + 1) t.blocks) (drop e t.points)) (sym is) (best_answer n e h))
     where
       go : (o : Option Cuts) → Answer limit n e (drop (e + 1) t.blocks) (drop e t.points) o → IfSome o (λ c. c.cost ≤ 15000000)
       go None a = tt

@@ -6,7 +6,7 @@ use Rattle.cuts.specs.Orders.{NoLater, mark}
 use Rattle.cuts.specs.Allowed.{flags_at}
 use Rattle.cuts.specs.Reach.{reaches_from, reaches, AsFar, OneReachEach, FlagsOrderIsReach, ChosenReachFurthest}
 use Rattle.cuts.proofs.Ranges.{ranges}
-use Rattle.cuts.proofs.Regions.{regions-start}
+use Rattle.cuts.proofs.Steps.{regions-start}
 
 length_flags : (ps : List ℕ) (fs : List Bool) → length (flags_at ps fs) ≡ length ps
 length_flags [] fs = refl
@@ -20,23 +20,18 @@ ahead j k (false ∷ fs) ys h = ahead j (k + 1) fs ys (omega arith)
 ahead j k (true ∷ fs) ys h = inl h
 
 not_behind : (j k : ℕ) (fs : List Bool) (ys : List ℕ) → j < k → AsFar (j ∷ ys) (reaches_from k fs) → ⊥
-not_behind j k [] ys h (inl l) = omega arith
-not_behind j k [] ys h (inr e) = omega (arith, e.0)
+not_behind j k [] ys h a = grind arith
 not_behind j k (false ∷ fs) ys h a = not_behind j (k + 1) fs ys (omega arith) a
-not_behind j k (true ∷ fs) ys h (inl l) = omega arith
-not_behind j k (true ∷ fs) ys h (inr e) = omega (arith, e.0)
+not_behind j k (true ∷ fs) ys h a = grind arith
 
 reach_from_order : (k : ℕ) (fs gs : List Bool) → length fs ≡ length gs → NoLater (map mark fs) (map mark gs) → AsFar (reaches_from k fs) (reaches_from k gs)
 reach_from_order k [] [] m o = inr (refl, tt)
 reach_from_order k [] (g ∷ gs) m o = absurd (omega arith)
 reach_from_order k (f ∷ fs) [] m o = absurd (omega arith)
-reach_from_order k (false ∷ fs) (false ∷ gs) m (inl l) = absurd (omega arith)
-reach_from_order k (false ∷ fs) (false ∷ gs) m (inr e) = reach_from_order (k + 1) fs gs (omega arith) e.1
+reach_from_order k (false ∷ fs) (false ∷ gs) m o = reach_from_order (k + 1) fs gs (omega arith) (grind arith)
 reach_from_order k (false ∷ fs) (true ∷ gs) m o = ahead k (k + 1) fs (reaches_from (k + 1) gs) (omega arith)
-reach_from_order k (true ∷ fs) (false ∷ gs) m (inl l) = absurd (omega arith)
-reach_from_order k (true ∷ fs) (false ∷ gs) m (inr e) = absurd (omega (arith, e.0))
-reach_from_order k (true ∷ fs) (true ∷ gs) m (inl l) = absurd (omega arith)
-reach_from_order k (true ∷ fs) (true ∷ gs) m (inr e) = inr (refl, reach_from_order (k + 1) fs gs (omega arith) e.1)
+reach_from_order k (true ∷ fs) (false ∷ gs) m o = absurd (grind arith)
+reach_from_order k (true ∷ fs) (true ∷ gs) m o = inr (refl, reach_from_order (k + 1) fs gs (omega arith) (grind arith))
 
 order_from_reach : (k : ℕ) (fs gs : List Bool) → length fs ≡ length gs → AsFar (reaches_from k fs) (reaches_from k gs) → NoLater (map mark fs) (map mark gs)
 order_from_reach k [] gs m a = tt
@@ -44,8 +39,7 @@ order_from_reach k (f ∷ fs) [] m a = absurd (omega arith)
 order_from_reach k (false ∷ fs) (false ∷ gs) m a = inr (refl, order_from_reach (k + 1) fs gs (omega arith) a)
 order_from_reach k (false ∷ fs) (true ∷ gs) m a = inl (omega arith)
 order_from_reach k (true ∷ fs) (false ∷ gs) m a = absurd (not_behind k (k + 1) gs (reaches_from (k + 1) fs) (omega arith) a)
-order_from_reach k (true ∷ fs) (true ∷ gs) m (inl l) = absurd (omega arith)
-order_from_reach k (true ∷ fs) (true ∷ gs) m (inr e) = inr (refl, order_from_reach (k + 1) fs gs (omega arith) e.1)
+order_from_reach k (true ∷ fs) (true ∷ gs) m a = inr (refl, order_from_reach (k + 1) fs gs (omega arith) (grind arith))
 
 pub flags_order_is_reach_lem : FlagsOrderIsReach
 flags_order_is_reach_lem t cuts others =

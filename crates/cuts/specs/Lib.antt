@@ -1,4 +1,5 @@
 pub mod Regions
+pub mod Walk
 pub mod Orders
 pub mod Allowed
 pub mod Best

@@ -1,6 +1,5 @@
 // The cuts that are chosen under a limit, by a backward programme over the points of a task.
-ghost use Rattle.std.specs.Prelude.{◌≡◌, ◌+◌, ◌<◌, ◌≤◌, true, length, IfSome};
-ghost use Rattle.tasks.specs.Tasks.{in_range};
+ghost use Rattle.std.specs.Prelude.{◌≡◌, ◌+◌, ◌<◌, ◌≤◌, length, IfSome};
 ghost use Rattle.tasks.specs.Stored.{task_of};
 ghost use Rattle.cuts.specs.Best.{BestCuts};
 ghost use Rattle.cuts.specs.Dynamic.{Known, best_at, cheaper_of, with_cut};
@@ -13,13 +12,10 @@ use tasks::{MAX_POINTS, Task};
 fn cheaper(a: Option<Cuts>, b: Option<Cuts>) -> Option<Cuts>
     ensures { result ≡ cheaper_of a b }
 {
-    let Some(first) = a else {
-        return b;
-    };
-    let Some(second) = b else {
-        return a;
-    };
-    if second.cost <= first.cost { b } else { a }
+    match (a, b) {
+        (Some(first), Some(second)) if first.cost < second.cost => a,
+        _ => b.or(a),
+    }
 }
 
 // One more cut, at `point`.
@@ -35,58 +31,73 @@ fn with_cut(cuts: Option<Cuts>, point: usize, cost: u32) -> Option<Cuts>
     Some(more)
 }
 
-// The best cuts from point `from` on, where the region under way has `start` ticks before it.
-// It ends at one of the points, with a cut that `memo` goes on from, or with the task.
-fn best_from(
-    task: &Task,
-    memo: &[Option<Cuts>; MAX_POINTS],
+// The backward programme, from the last point of the task back to point `from`.
+#[derive(Drop)]
+struct Programme<'a> {
+    task: &'a Task,
     limit: Option<u32>,
     from: usize,
-    start: u32,
-) -> Option<Cuts>
-    requires ranges { in_range (task_of task.now) ≡ true }
-    requires place { from ≤ length (task_of task.now).points }
-    requires short { start ≤ 2000000 }
-    requires known { Known limit (task_of task.now) memo.now from }
-    ensures value { result ≡ best_at limit (task_of task.now) start from }
-    ensures bound { IfSome result (λ c. c.cost ≤ 15000000) }
-{
-    let blocks = task.blocks.as_slice();
-    let points = task.points.as_slice();
-    let mut length = start;
-    let mut found: Option<Cuts> = None;
-    for j in from..points.len() {
-        if is_within(limit, length) {
-            found = cheaper(found, memo[j]);
+    // for each point from there on, the best cuts from it on with a cut there;
+    // an array and no `Bounded`, since it fills from the back, at the place of each point
+    memo: [Option<Cuts>; MAX_POINTS],
+    ghost place: { from ≤ length (task_of task.now).points },
+    ghost known: { Known limit (task_of task.now) memo from },
+}
+
+impl<'a> Programme<'a> {
+    // The best cuts from here on, where the region under way has `start` ticks before it.
+    // It ends at one of the points, with a cut that the memo goes on from, or with the task.
+    fn best(&self, start: u32) -> Option<Cuts>
+        requires { start ≤ 2000000 }
+        ensures { result ≡ best_at self.now.limit (task_of self.now.task.now) start self.now.from }
+    {
+        let following = &self.task.blocks.as_slice()[self.from + 1..];
+        let mut length = start;
+        let mut found = None;
+        for (block, ending) in following.iter().zip(&self.memo[self.from..]) {
+            if is_within(self.limit, length) {
+                found = cheaper(found, *ending);
+            }
+            length += *block;
         }
-        length += blocks[j + 1];
+        if is_within(self.limit, length) {
+            found = cheaper(found, Some(Cuts::default()));
+        }
+        found
     }
-    if is_within(limit, length) {
-        let uncut = Cuts {
-            cost: 0,
-            flags: [false; MAX_POINTS],
-        };
-        found = cheaper(found, Some(uncut));
+
+    // One point further back.
+    fn step_back(&mut self)
+        requires { 0 < self.old.from }
+        ensures task { self.new.task ≡ self.old.task }
+        ensures limit { self.new.limit ≡ self.old.limit }
+        ensures from { self.new.from + 1 ≡ self.old.from }
+    {
+        let point = self.from - 1;
+        let cost = self.task.points.at(point);
+        let rest = self.best(cost + self.task.blocks.at(self.from));
+        self.memo[point] = with_cut(rest, point, cost);
+        self.from = point;
     }
-    found
 }
 
 // The cheapest cuts that keep every region of the task within the limit.
 // Of those, the ones whose first region reaches furthest, then the second, and so on.
 pub fn best_cuts(task: &Task, limit: Option<u32>) -> Option<Cuts>
-    requires { in_range (task_of task.now) ≡ true }
     ensures best { BestCuts limit (task_of task.now) result }
     ensures bound { IfSome result (λ c. c.cost ≤ 15000000) }
 {
-    let blocks = task.blocks.as_slice();
-    let points = task.points.as_slice();
-    // the best cuts from each point on with a cut there, the last point first
-    let mut memo: [Option<Cuts>; MAX_POINTS] = [None; MAX_POINTS];
-    for j in (0..points.len()).rev() {
-        let rest = best_from(task, &memo, limit, j + 1, points[j] + blocks[j + 1]);
-        memo[j] = with_cut(rest, j, points[j]);
+    let mut programme = Programme {
+        task,
+        limit,
+        from: task.points.len(),
+        memo: [None; MAX_POINTS],
+    };
+    // the programme keeps its place itself, beside what its memory knows from there on
+    while programme.from > 0 {
+        programme.step_back();
     }
-    best_from(task, &memo, limit, 0, blocks[0])
+    programme.best(task.blocks.at(0))
 }
 
 #[cfg(test)]
@@ -114,10 +125,7 @@ mod tests {
         let table = draft.seal();
         let tasks = table.tasks();
         assert!(rt; tasks.len() == 1);
-        match best_cuts(&tasks[0], limit) {
-            Some(cuts) => Ok(Some((cuts.cost, cuts.flags[0], cuts.flags[1]))),
-            None => Ok(None),
-        }
+        Ok(best_cuts(&tasks[0], limit).map(|cuts| (cuts.cost, cuts.flags[0], cuts.flags[1])))
     }
 
     #[test]

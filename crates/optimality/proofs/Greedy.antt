@@ -31,7 +31,7 @@ Dom (t ∷ ts) (r ∷ rs) (q ∷ qs) = (r.core ≡ q.core) × NoLater (cut_rank 
 
 -- the second is the first with a load that is no greater
 pub record Lower (x y : Placed) : Type 0 where
-  pub core : y.core ≡ x.core
+  pub core : y.row.core ≡ x.row.core
   pub entry : LighterEntry x.entry y.entry
 
 guard_lighter : (b : Bool) (x y : Entry) (xs ys : List Entry) → LighterEntry x y → Lighter xs ys → Lighter (cond b (x ∷ xs) xs) (cond b (y ∷ ys) ys)
@@ -44,8 +44,8 @@ on_lighter c [] [] l = tt
 on_lighter c [] (y ∷ ys) l = absurd l
 on_lighter c (x ∷ xs) [] l = absurd l
 on_lighter c (x ∷ xs) (y ∷ ys) l =
-    subst (λ (k : ℕ). Lighter (cond (eqb x.core c) (x.entry ∷ on_core c xs) (on_core c xs)) (cond (eqb k c) (y.entry ∷ on_core c ys) (on_core c ys))) (sym l.0.core)
-    (guard_lighter (eqb x.core c) x.entry y.entry (on_core c xs) (on_core c ys) l.0.entry (on_lighter c xs ys l.1))
+    subst (λ (k : ℕ). Lighter (cond (eqb x.row.core c) (x.entry ∷ on_core c xs) (on_core c xs)) (cond (eqb k c) (y.entry ∷ on_core c ys) (on_core c ys))) (sym l.0.core)
+    (guard_lighter (eqb x.row.core c) x.entry y.entry (on_core c xs) (on_core c ys) l.0.entry (on_lighter c xs ys l.1))
 
 -- a longer limit allows no less
 pub allowed_under : (a b : Option ℕ) (t : Task) (cuts : List Bool) → AtMost a b → Allowed a t cuts → Allowed b t cuts

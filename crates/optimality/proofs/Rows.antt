@@ -1,12 +1,12 @@
 -- Each row of the choice has the chosen cuts. Assumes nothing but the laws of the test.
-use Rattle.std.proofs.Common.{◌≡◌, ℕ, zero, suc, ◌*◌, ◌<◌, ◌≤◌, Bool, true, List, [], ◌∷◌, ◌++◌, map, length, get_or, take, Some, None, Option, sym, refl, ap, ◌∙◌, subst, append_assoc, mul-le-mul_left, arith}
+use Rattle.std.proofs.Common.{◌≡◌, ℕ, zero, suc, ◌+◌, ◌*◌, ◌<◌, ◌≤◌, Bool, true, cond, eqb, List, [], ◌∷◌, ◌++◌, map, length, get_or, take, Some, None, Option, sym, refl, ap, ◌∙◌, subst, append_assoc, mul-le-mul_left, arith}
 use native.Mathlib.Nat.{le_of_mul-le-mul_left}
 use Rattle.std.specs.List.{AllZip, AllByRecursion}
 use Rattle.std.proofs.lemmas.List.{append-nil}
 use Rattle.std.proofs.lemmas.List.Elements.{AllZip-push}
 use Rattle.std.proofs.lemmas.Bool.{and_parts}
 use Rattle.tasks.specs.Tasks.{Task, Table, every, in_range, weight, table_rules}
-use Rattle.tasks.specs.Cuts.{cut_cost}
+use Rattle.tasks.specs.Cuts.{total, cut_cost}
 use Rattle.tasks.proofs.Rules.{rules_are}
 use Rattle.coretests.specs.declared.entry.Entry.{Entry}
 use Rattle.cuts.specs.declared.types.Cuts.{Cuts}
@@ -18,7 +18,8 @@ use Rattle.cuts.proofs.Ranges.{ranges}
 use Rattle.cuts.proofs.Dynamic.{best_cuts_lem}
 use Rattle.plans.specs.declared.types.Row.{Row}
 use Rattle.plans.specs.declared.types.Placed.{Placed}
-use Rattle.plans.specs.Plans.{place, placed_with, places, on_core, Fits, Lawful, cost_of, cores, marks, rank, Choice}
+use Rattle.plans.specs.Plans.{place, places, on_core, Fits, Lawful, cost_of, cores, marks, rank, Choice}
+use Rattle.plans.proofs.OnCore.{on-append}
 use Rattle.optimality.specs.Tests.{Laws}
 use Rattle.optimality.specs.Beginnings.{Greedy, row}
 use Rattle.optimality.specs.Meanings.{ChoiceHasChosenCuts}
@@ -48,14 +49,14 @@ greedy_at limit table before (x ∷ ts) (q ∷ rs) g l (suc i) t r h =
     (append_assoc before (place table x q ∷ []) (take i (places table ts rs)))
     (greedy_at limit table (before ++ place table x q ∷ []) ts rs g.3 (omega arith) i t r (omega arith))
 
--- rows that fit and agree with chosen ones in cores, cost and flags have the chosen cuts
-same_greedy : (limit : List Entry → ℕ → Option ℕ) (table : Table) (before : List Placed) (ts : List Task) (gs rs : List Row) → AllByRecursion (λ t. 1 ≤ weight table t) ts
-    → length gs ≡ length ts → Dom ts gs rs → cost_of table ts rs ≤ cost_of table ts gs → marks ts gs ≡ marks ts rs
-    → Greedy limit table before ts gs → Fits limit table before ts rs → Greedy limit table before ts rs
-same_greedy limit table before ts gs [] w l d h m g f = tt
-same_greedy limit table before [] gs (r ∷ rs) w l d h m g f = absurd f
-same_greedy limit table before (t ∷ ts) [] (r ∷ rs) w l d h m g f = absurd (omega arith)
-same_greedy limit table before (t ∷ ts) (q ∷ gs) (r ∷ rs) w l d h m g f =
+-- rows that fit and agree with chosen ones in cores, cost and flags have the chosen cuts, behind tasks that leave the same lists
+same_greedy : (limit : List Entry → ℕ → Option ℕ) (table : Table) (before before' : List Placed) (ts : List Task) (gs rs : List Row) → ((c : ℕ) → on_core c before ≡ on_core c before')
+    → AllByRecursion (λ t. 1 ≤ weight table t) ts → length gs ≡ length ts → Dom ts gs rs → cost_of table ts rs ≤ cost_of table ts gs → marks ts gs ≡ marks ts rs
+    → Greedy limit table before ts gs → Fits limit table before' ts rs → Greedy limit table before' ts rs
+same_greedy limit table before before' ts gs [] alike w l d h m g f = tt
+same_greedy limit table before before' [] gs (r ∷ rs) alike w l d h m g f = absurd f
+same_greedy limit table before before' (t ∷ ts) [] (r ∷ rs) alike w l d h m g f = absurd (omega arith)
+same_greedy limit table before before' (t ∷ ts) (q ∷ gs) (r ∷ rs) alike w l d h m g f =
     let a = cut_cost t q.cuts in
     let b = cut_cost t r.cuts in
     let le : a ≤ b = rank_le t q.cuts r.cuts d.1 in
@@ -64,13 +65,16 @@ same_greedy limit table before (t ∷ ts) (q ∷ gs) (r ∷ rs) w l d h m g f =
     let price : a ≡ b = omega (arith, le_of_mul-le-mul_left {m = b} {n = a} {k = weight table t} (omega arith) w.0) in
     let flags = fronts_same (map mark (flags_at t.points q.cuts)) (map mark (flags_at t.points r.cuts)) (marks ts gs) (marks ts rs) (marks-length t.points q.cuts r.cuts) m in
     let same : cut_rank t q.cuts ≡ cut_rank t r.cuts = λ i. price i ∷ flags.0 i in
-    let placed : place table t q ≡ place table t r = λ i. placed_with t (d.0 i) (price i) (weight table t) in
-    let chosen : LeastCuts (limit (on_core r.core before) t.deadline) t q.cuts = subst (λ (k : ℕ). LeastCuts (limit (on_core k before) t.deadline) t q.cuts) d.0 g.2 in (
+    let one : (c : ℕ) → on_core c (place table t q ∷ []) ≡ on_core c (place table t r ∷ []) = λ c i. cond (eqb (d.0 i) c) (record { period = t.period; deadline = t.deadline; load = total t.blocks + price i } ∷ []) [] in
+    let chosen : LeastCuts (limit (on_core r.core before') t.deadline) t q.cuts =
+    subst (λ (l : List Entry). LeastCuts (limit l t.deadline) t q.cuts) (alike r.core) (subst (λ (k : ℕ). LeastCuts (limit (on_core k before) t.deadline) t q.cuts) d.0 g.2)
+    in (
       f.0.low,
       f.0.high,
       record { allowed = f.0.allowed; least = λ others fair. subst (λ (x : List ℕ). NoLater x (cut_rank t others)) same (chosen.least others fair) },
-      same_greedy limit table (before ++ place table t r ∷ []) ts gs rs w.1 (omega arith) d.2 (omega (arith, ap (λ n. weight table t * n) price)) flags.1
-          (subst (λ (p : Placed). Greedy limit table (before ++ p ∷ []) ts gs) placed g.3) f.1,
+      same_greedy limit table (before ++ place table t q ∷ []) (before' ++ place table t r ∷ []) ts gs rs
+          (λ c. on-append c before (place table t q ∷ []) ∙ (λ i. alike c i ++ one c i) ∙ sym (on-append c before' (place table t r ∷ [])))
+          w.1 (omega arith) d.2 (omega (arith, ap (λ n. weight table t * n) price)) flags.1 g.3 f.1,
     )
 
 module _ {accepts : List Entry → Type 0} {limit : List Entry → ℕ → Option ℕ} (laws : Laws accepts limit) where
@@ -105,7 +109,7 @@ module _ {accepts : List Entry → Type 0} {limit : List Entry → ℕ → Optio
       let e : rank table gs ≡ rank table rows = no_later_antisym (rank table gs) (rank table rows) (greedy_least laws table gs rows w s.1 choice.lawful (sym s.2)) (choice.least gs law) in
       let price : cost_of table ts gs ≡ cost_of table ts rows = cc in
       let rest : cores gs ++ marks ts gs ≡ cores rows ++ marks ts rows = cc in
-      same_greedy limit table [] ts gs rows w long d (omega arith) (fronts_same (cores gs) (cores rows) (marks ts gs) (marks ts rows) (ap length s.2) rest).1 s.1 fits
+      same_greedy limit table [] [] ts gs rows (λ c. refl) w long d (omega arith) (fronts_same (cores gs) (cores rows) (marks ts gs) (marks ts rows) (ap length s.2) rest).1 s.1 fits
 
   pub choice_has_chosen_cuts_lem : ChoiceHasChosenCuts accepts limit
   choice_has_chosen_cuts_lem table rows rules choice =

@@ -75,9 +75,9 @@ module _ (limit : List Entry → ℕ → Option ℕ) (table : Table) where
 nonempty : (xs : List Entry) (x : Entry) → xs ++ x ∷ [] ≡ [] → ⊥
 nonempty xs x e = omega (arith, length-append xs (x ∷ []), ap length e)
 
-pub held_push : (accepts : List Entry → Type 0) (ps : List Placed) (p : Placed) → Held accepts ps → accepts (on_core p.core ps ++ p.entry ∷ [])
+pub held_push : (accepts : List Entry → Type 0) (ps : List Placed) (p : Placed) → Held accepts ps → accepts (on_core p.row.core ps ++ p.entry ∷ [])
     → Held accepts (ps ++ p ∷ [])
-held_push accepts ps p h a c some = elim (cases_eq p.core c) [
+held_push accepts ps p h a c some = elim (cases_eq p.row.core c) [
   | inl e ↦ subst accepts (sym (on_push c ps p e)) (subst (λ (k : ℕ). accepts (on_core k ps ++ p.entry ∷ [])) e a)
   | inr n ↦ let e = on_other c ps p n in subst accepts (sym e) (h c (λ none. some (e ∙ none)))
 ]

@@ -56,11 +56,11 @@ module _ (a b : ℕ) where
   turns (r ∷ rs) = turn r ∷ turns rs
 
   abbrev move : Placed → Placed
-  move p = record { core = swap a b p.core; entry = p.entry; overhead = p.overhead }
+  move p = record { row = turn p.row; entry = p.entry; overhead = p.overhead }
 
   on_moved : (c : ℕ) (ps : List Placed) → on_core c (map move ps) ≡ on_core (swap a b c) ps
   on_moved c [] = refl
-  on_moved c (p ∷ ps) = λ i. cond (swap_test a b p.core c i) (p.entry ∷ on_moved c ps i) (on_moved c ps i)
+  on_moved c (p ∷ ps) = λ i. cond (swap_test a b p.row.core c i) (p.entry ∷ on_moved c ps i) (on_moved c ps i)
 
   -- where neither core has been used yet, the turned plan comes earlier
   before_turned : (qs : List Row) (ps : List ℕ) → a < b → AllByRecursion (λ x. x ≡ a → ⊥) ps → AllByRecursion (λ x. x ≡ b → ⊥) ps → Begins (cores qs) (ps ++ b ∷ []) → Before (cores (turns qs)) (ps ++ b ∷ [])

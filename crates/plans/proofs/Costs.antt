@@ -1,19 +1,15 @@
 -- The cost of a plan is that of its places, and is bounded. Assumes nothing.
-use Rattle.std.proofs.Common.{◌≡◌, ℕ, ◌+◌, ◌<◌, ◌≤◌, Bool, true, List, [], ◌∷◌, length, get_or, sum_by, sym, refl, ap, ◌∙◌, subst, mul-le-mul}
-use Rattle.std.specs.List.{AllByRecursion}
-use Rattle.std.proofs.ByRecursion.{All-get_or}
+use Rattle.std.proofs.Common.{◌≡◌, ℕ, ◌+◌, ◌*◌, ◌≤◌, Bool, true, List, [], ◌∷◌, length, sum_by, sym, refl, ap, ◌∙◌, mul-le-mul, div-le_self, arith}
 use Rattle.std.proofs.lemmas.List.Sums.{sum_by-cons}
 use Rattle.std.proofs.lemmas.Bool.{and_parts}
 use Rattle.span.specs.Spans.{span_of}
-use Rattle.tasks.specs.Tasks.{Task, Table, every, in_range, periods, table_rules}
+use Rattle.tasks.specs.Tasks.{Task, Table, every, in_range, periods, weight, table_rules}
 use Rattle.tasks.specs.Cuts.{overhead}
 use Rattle.tasks.proofs.Rules.{rules_are}
 use Rattle.cuts.proofs.Ranges.{cut_cost_bound}
 use Rattle.plans.specs.declared.types.Row.{Row}
 use Rattle.plans.specs.declared.types.Placed.{Placed}
-use Rattle.plans.specs.Plans.{place, places, cost_of}
-use Rattle.plans.proofs.OnCore.{nowhere}
-use Rattle.plans.proofs.Places.{weight_light}
+use Rattle.plans.specs.Plans.{place, places, cost_of, cost}
 
 -- the overheads, added up
 abbrev pub overheads : List Placed → ℕ
@@ -25,15 +21,20 @@ cost-places table [] (r ∷ rs) = refl
 cost-places table (t ∷ ts) (r ∷ rs) = ap (λ n. overhead table t r.cuts + n) (cost-places table ts rs) ∙ sym (sum_by-cons (λ p. p.overhead) (place table t r) (places table ts rs))
 
 module _ (table : Table) (rules : table_rules table ≡ true) where
-  pub overhead_bound : (t : Task) (cuts : List Bool) → in_range t ≡ true → overhead table t cuts ≤ 15000000000000
-  overhead_bound t cuts h = mul-le-mul (weight_light table (span_of (periods table.tasks)) t.period rules refl) (cut_cost_bound t cuts h)
+  -- a weight is no greater than the span
+  pub weight_small : (t : Task) → weight table t ≤ 1000000
+  weight_small t = omega (arith, div-le_self (span_of (periods table.tasks)) t.period, (rules_are table rules).short)
 
-  overheads_small : (ts : List Task) (rs : List Row) → every in_range ts ≡ true → AllByRecursion (λ p. p.overhead ≤ 15000000000000) (places table ts rs)
-  overheads_small ts [] h = tt
-  overheads_small [] (r ∷ rs) h = tt
-  overheads_small (t ∷ ts) (r ∷ rs) h = let hs = and_parts (in_range t) (every in_range ts) h in (overhead_bound t r.cuts hs.0, overheads_small ts rs hs.1)
+  overhead_small : (t : Task) (cuts : List Bool) → in_range t ≡ true → overhead table t cuts ≤ 15000000000000
+  overhead_small t cuts h = mul-le-mul (weight_small t) (cut_cost_bound t cuts h)
 
-  pub overhead_at : (rows : List Row) (ps : List Placed) (i : ℕ) → ps ≡ places table table.tasks rows → i < length ps → (get_or ps i nowhere).overhead ≤ 15000000000000
-  overhead_at rows ps i is h =
-      let all = overheads_small table.tasks rows (rules_are table rules).ranges in
-      All-get_or (λ p. p.overhead ≤ 15000000000000) ps i nowhere h (subst (AllByRecursion (λ (p : Placed). p.overhead ≤ 15000000000000)) (sym is) all)
+  cost_small : (ts : List Task) (rs : List Row) → every in_range ts ≡ true → cost_of table ts rs ≤ 15000000000000 * length ts
+  cost_small ts [] h = omega arith
+  cost_small [] (r ∷ rs) h = omega arith
+  cost_small (t ∷ ts) (r ∷ rs) h =
+      let hs = and_parts (in_range t) (every in_range ts) h in
+      omega (arith, overhead_small t r.cuts hs.0, cost_small ts rs hs.1)
+
+  -- of a plan, or a beginning of one
+  pub plan_cost_small : (rs : List Row) → cost table rs ≤ 360000000000000
+  plan_cost_small rs = omega (arith, cost_small table.tasks rs (rules_are table rules).ranges, (rules_are table rules).few)

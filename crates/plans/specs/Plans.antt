@@ -11,11 +11,11 @@ use Rattle.plans.specs.declared.types.Placed.{Placed}
 
 -- a task as its row places it
 abbrev pub place : Table → Task → Row → Placed
-place table t r = record { core = r.core; entry = record { period = t.period; deadline = t.deadline; load = load t r.cuts }; overhead = overhead table t r.cuts }
+place table t r = record { row = r; entry = record { period = t.period; deadline = t.deadline; load = load t r.cuts }; overhead = overhead table t r.cuts }
 
--- the same, of the core, what the cuts cost and the task's weight
-abbrev pub placed_with : Task → ℕ → ℕ → ℕ → Placed
-placed_with t core price weight = record { core = core; entry = record { period = t.period; deadline = t.deadline; load = total t.blocks + price }; overhead = weight * price }
+-- the same, of the row, what its cuts cost and the task's weight
+abbrev pub placed_with : Task → Row → ℕ → ℕ → Placed
+placed_with t r price weight = record { row = r; entry = record { period = t.period; deadline = t.deadline; load = total t.blocks + price }; overhead = weight * price }
 
 -- tasks as their rows place them, in table order
 abbrev pub places : Table → List Task → List Row → List Placed
@@ -23,10 +23,14 @@ places table ts [] = []
 places table [] (r ∷ rs) = []
 places table (t ∷ ts) (r ∷ rs) = place table t r ∷ places table ts rs
 
+-- the rows of placed tasks
+abbrev pub rows_placed : List Placed → List Row
+rows_placed ps = map (λ p. p.row) ps
+
 -- a core's list: the entries of its tasks, in table order
 abbrev pub on_core : ℕ → List Placed → List Entry
 on_core c [] = []
-on_core c (p ∷ ps) = cond (p.core == c) (p.entry ∷ on_core c ps) (on_core c ps)
+on_core c (p ∷ ps) = cond (p.row.core == c) (p.entry ∷ on_core c ps) (on_core c ps)
 
 -- a row suits its task, behind the tasks that are placed before it: it names a core of the cabinet,
 -- and its cuts are allowed under the limit that the entries before it on this core leave at its deadline

@@ -14,15 +14,9 @@ pub fn on_core(all: &[Placed], core: u32) -> Bounded<Entry, MAX_TASKS>
     ensures items { list_of result ≡ on_core core all.now }
     ensures len { length (list_of result) ≤ length all.now }
 {
-    let mut list = Bounded::new(Entry {
-        period: 1,
-        deadline: 1,
-        load: 0,
-    });
-    for p in all {
-        if p.core == core {
-            let _ = list.push(p.entry);
-        }
+    let mut list = Bounded::default();
+    for placed in all.iter().filter(|p| p.row.core == core) {
+        let _ = list.push(placed.entry);
     }
     list
 }
@@ -31,10 +25,5 @@ pub fn on_core(all: &[Placed], core: u32) -> Bounded<Entry, MAX_TASKS>
 pub fn is_idle(all: &[Placed], core: u32) -> bool
     ensures { Decides result (on_core core all.now ≡ []) }
 {
-    for task in all {
-        if task.core == core {
-            return false;
-        }
-    }
-    true
+    !all.iter().any(|p| p.row.core == core)
 }

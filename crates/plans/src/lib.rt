@@ -7,4 +7,4 @@ pub mod types;
 
 pub use cores::{is_idle, on_core};
 pub use placing::{cost_of, place_all, placed};
-pub use types::{Placed, Row};
+pub use types::{Placed, Placings, Row};

@@ -1,5 +1,4 @@
 ghost use Rattle.std.specs.Prelude.{◌≡◌, []};
-ghost use Rattle.bounded.specs.Lists.{list_of};
 ghost use Rattle.tasks.specs.Tasks.{empty_on};
 ghost use Rattle.tasks.specs.Tables.{sealed};
 ghost use Rattle.clearing.specs.Clearing.{table_in, rows_in, Clears};
@@ -9,17 +8,7 @@ use crate::examine::examine_plan;
 use bounded::Bounded;
 use coretests::Edf;
 use plans::Row;
-use tasks::{Draft, MAX_POINTS, MAX_TASKS, Refusal, Sealed};
-
-// The rows of an empty plan.
-fn no_rows() -> Bounded<Row, MAX_TASKS>
-    ensures { list_of result ≡ [] }
-{
-    Bounded::new(Row {
-        core: 0,
-        cuts: [false; MAX_POINTS],
-    })
-}
+use tasks::{Draft, Refusal, Sealed};
 
 impl Cleared {
     // An empty table on one core, with its empty plan.
@@ -30,7 +19,7 @@ impl Cleared {
         let empty = Draft::new();
         Cleared {
             table: empty.seal(),
-            rows: no_rows(),
+            rows: Bounded::default(),
         }
     }
 
@@ -53,7 +42,7 @@ pub fn clear(table: &Sealed, rows: &[Row], cleared: &mut Cleared) -> Result<(), 
     ensures { Clears (sealed table.now) rows.now cleared.old result cleared.new }
 {
     examine_plan(&Edf, table, rows)?;
-    let mut kept = no_rows();
+    let mut kept = Bounded::default();
     let _ = kept.extend_from_slice(rows);
     *cleared = Cleared {
         table: table.duplicate(),

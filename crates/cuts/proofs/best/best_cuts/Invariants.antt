@@ -1,7 +1,8 @@
-use Rattle.std.proofs.Common.{◌≡◌, length}
-use Rattle.tasks.specs.Stored.{task_of}
-use Rattle.cuts.specs.Dynamic.{Known}
+use Rattle.std.proofs.Common.{◌≡◌}
 use Rattle.cuts.proofs.best.best_cuts.Given as goal
 
-abbrev pub invariant-loop-j : goal.invariant-loop-j
-invariant-loop-j l = (length l.memo ≡ 15) × Known l.limit (task_of l.task) l.memo l.j
+abbrev pub invariant-loop-programme : goal.invariant-loop-programme
+invariant-loop-programme l = record { task : l.programme.task.now ≡ l.task; limit : l.programme.limit ≡ l.fn.limit }
+
+abbrev pub decreases-loop-programme : goal.decreases-loop-programme
+decreases-loop-programme l = l.programme.from

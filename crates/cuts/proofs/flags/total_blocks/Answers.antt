@@ -1,26 +1,19 @@
-use Rattle.std.proofs.Common.{ap, arith}
-use Rattle.std.proofs.lemmas.List.{at_drop_more, at_drop_all}
-use Rattle.tasks.specs.Cuts.{total}
+use Rattle.std.proofs.Common.{◌≡◌, ◌<◌, sum, sym, ◌∙◌, arith, rules}
 use Rattle.tasks.specs.Stored.{task_of}
-use Rattle.cuts.proofs.Ranges.{total_bound}
+use Rattle.cuts.proofs.Ranges.{total_sum, total_bound}
 use Rattle.cuts.proofs.flags.total_blocks.Goals as goal
 
-pub overflow_add-sum : goal.overflow_add-sum
-overflow_add-sum c =
-    let whole = ap total c.as_slice-blocks.ensures.value in
-    let more = at_drop_more total c.as_slice-blocks.result.now c.loop-block.block-index 0 c.loop-block-test.true in
-    omega (arith, whole, more, c.loop-block.invariant, total_bound (task_of c.args.task.now) c.requires)
-
-pub loop-block-preserved : goal.loop-block-preserved
-loop-block-preserved c =
-    let more = at_drop_more total c.as_slice-blocks.result.now c.loop-block.block-index 0 c.loop-block-test.true in
-    omega (arith, more, c.loop-block.invariant)
+pub sum-requires-clause-fits : goal.sum-requires-clause-fits
+sum-requires-clause-fits c =
+    let t = task_of c.args.task.now in
+    let fits : sum t.blocks < 4294967296 = omega (arith, total_sum t.blocks, total_bound t c.args.task.now.ranges) in
+    search rules
 
 pub returns : goal.returns
 returns c =
-    let whole = ap total c.as_slice-blocks.ensures.value in
-    let none = at_drop_all total c.as_slice-blocks.result.now c.loop-block.block-index c.loop-block-test.false in
+    let t = task_of c.args.task.now in
+    let is : c.sum.result ≡ sum t.blocks = search rules in
     record {
-      value = omega (arith, whole, none, c.loop-block.invariant);
-      bound = omega (arith, whole, none, c.loop-block.invariant, total_bound (task_of c.args.task.now) c.requires);
+      value = is ∙ sym (total_sum t.blocks);
+      bound = omega (arith, is, total_sum t.blocks, total_bound t c.args.task.now.ranges);
     }

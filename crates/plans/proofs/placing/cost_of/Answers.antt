@@ -1,30 +1,27 @@
-use Rattle.std.proofs.Common.{sym, ap, ◌∙◌, arith}
-use Rattle.std.proofs.lemmas.List.{take_all}
-use Rattle.std.proofs.lemmas.List.Sums.{sum_by_more}
+use Rattle.std.proofs.Common.{rules, ◌≡◌, ◌<◌, ◌∙◌, ap, sym, arith}
+use Rattle.std.proofs.iter.runs.Made.{chains}
+use Rattle.bounded.specs.Lists.{list_of}
 use Rattle.tasks.specs.Tables.{sealed}
-use Rattle.plans.proofs.OnCore.{nowhere}
-use Rattle.plans.proofs.Costs.{overheads, cost-places, overhead_at}
+use Rattle.plans.specs.Plans.{cost}
+use Rattle.plans.proofs.Costs.{overheads, cost-places, plan_cost_small}
 use Rattle.plans.proofs.placing.cost_of.Goals as goal
+use Rattle.plans.proofs.placing.cost_of.Goals.{After-place_all}
 
-pub overflow_add-cost : goal.overflow_add-cost
-overflow_add-cost c =
-    let items = c.as_slice-p-items.result.now in
-    let small = overhead_at (sealed c.args.table.now) c.args.table.now.rules c.args.rows.now items c.loop-p.p-index (c.as_slice-p-items.ensures.value ∙ c.place_all-all.ensures) c.loop-p-test.true in
-    omega (arith, small, c.loop-p.invariant.1, c.loop-p-test.true, c.as_slice-p-items.ensures.bound)
+-- the overheads of the places are the cost of the plan
+priced : (c : After-place_all) → overheads (list_of c.place_all.result) ≡ cost (sealed c.args.table.now) c.args.rows.now
+priced c = let table = sealed c.args.table.now in ap overheads c.place_all.ensures ∙ sym (cost-places table table.tasks c.args.rows.now)
 
-pub loop-p-preserved : goal.loop-p-preserved
-loop-p-preserved c =
-    let items = c.as_slice-p-items.result.now in
-    let small = overhead_at (sealed c.args.table.now) c.args.table.now.rules c.args.rows.now items c.loop-p.p-index (c.as_slice-p-items.ensures.value ∙ c.place_all-all.ensures) c.loop-p-test.true in (
-      omega (arith, c.loop-p.invariant.0, sum_by_more (λ p. p.overhead) items c.loop-p.p-index nowhere c.loop-p-test.true),
-      omega (arith, small, c.loop-p.invariant.1),
-    )
+pub sum-requires-clause-fits : goal.sum-requires-clause-fits
+sum-requires-clause-fits c =
+    let at = (goal.at.sum-requires-clause-fits c).After-place_all in
+    let small : overheads c.as_slice.result.now < 18446744073709551616 = omega (arith, ap overheads c.as_slice.ensures.value, priced at, plan_cost_small (sealed c.args.table.now) c.args.table.now.table.rules c.args.rows.now) in
+    search (rules, chains, small)
 
 pub returns : goal.returns
 returns c =
-    let table = sealed c.args.table.now in
-    let whole = ap overheads (take_all c.loop-p.p-index c.as_slice-p-items.result.now c.loop-p-test.false ∙ c.as_slice-p-items.ensures.value ∙ c.place_all-all.ensures) in
+    let at = (goal.at.returns c).After-place_all in
+    let told : c.sum.result ≡ overheads (list_of c.place_all.result) = search (rules, chains) in
     record {
-      value = c.loop-p.invariant.0 ∙ whole ∙ sym (cost-places table table.tasks c.args.rows.now);
-      bound = omega (arith, c.loop-p.invariant.1, c.as_slice-p-items.ensures.bound);
+      value = told ∙ priced at;
+      bound = omega (arith, told, priced at, plan_cost_small (sealed c.args.table.now) c.args.table.now.table.rules c.args.rows.now);
     }

@@ -1,14 +1,15 @@
-use Rattle.std.proofs.Common.{◌≡◌, true, [], ◌∷◌, ◌++◌, None, sym, refl, ap, ◌∙◌, subst, inl, inr, ⊎_elim}
+use Rattle.std.proofs.Common.{◌/◌, [], ◌∷◌, ◌++◌, None, sym, refl, ap, ◌∙◌, subst, inl, inr, ⊎_elim, arith}
 use Rattle.std.specs.Slice.Iter.{iter_rest}
 use Rattle.std.specs.Iterator.Adapters.{zip_first, zip_second}
 use Rattle.std.proofs.lemmas.Slice.Zip.{either_empty_from_Zip}
 use Rattle.bounded.specs.Lists.{list_of}
-use Rattle.tasks.specs.Tasks.{Table, in_range}
+use Rattle.tasks.specs.Tasks.{Table}
 use Rattle.tasks.specs.Stored.{task_of, tasks_of}
 use Rattle.tasks.specs.Tables.{sealed}
 use Rattle.tasks.proofs.Rules.{in_range_period}
 use Rattle.bounded.proofs.Pushed.{pushed}
-use Rattle.plans.proofs.Places.{weight_light, place_with, Placing, placing_start, placing_at, placing_range, placing_room, placing_more, placing_end}
+use Rattle.plans.proofs.Costs.{weight_small}
+use Rattle.plans.proofs.Places.{place_with, Placing, placing_start, placing_at, placing_room, placing_more, placing_end}
 use Rattle.plans.proofs.placing.place_all.Goals as goal
 use Rattle.plans.proofs.placing.place_all.Goals.{In-Some}
 
@@ -19,8 +20,8 @@ loop-task-init c =
     let it = c.into_iter-task-iterator.ensures.into_iter_gives in
     let tasks = ap (λ z. iter_rest (zip_first z)) it ∙ ap iter_rest c.zip-task-items.ensures.first ∙ c.iter.ensures.rest in
     let rest = ap (λ z. iter_rest (zip_second z)) it ∙ c.zip-task-items.ensures.second.0 in
-    subst (λ l. Placing table rows l (tasks_of (iter_rest (zip_first c.into_iter-task-iterator.result))) (iter_rest (zip_second c.into_iter-task-iterator.result))) (sym c.new-all.ensures)
-    (placing_at table rows [] _ _ _ _ (sym tasks) (sym rest) (subst (λ l. Placing table rows [] l rows) (sym c.tasks.ensures) (placing_start table rows c.args.table.now.rules)))
+    subst (λ l. Placing table rows l (tasks_of (iter_rest (zip_first c.into_iter-task-iterator.result))) (iter_rest (zip_second c.into_iter-task-iterator.result))) (sym c.default-all.ensures)
+    (placing_at table rows [] _ _ _ _ (sym tasks) (sym rest) (subst (λ l. Placing table rows [] l rows) (sym c.tasks.ensures) (placing_start table rows c.args.table.now.table.rules)))
 
 module _ (c : In-Some) where
   abbrev table : Table
@@ -33,21 +34,14 @@ module _ (c : In-Some) where
       (iter_rest (zip_first c.loop-task.task-iterator)) (c.in-Some.task.now ∷ iter_rest (zip_first c.next.new.self))
       (iter_rest (zip_second c.loop-task.task-iterator)) (c.in-Some.row.now ∷ iter_rest (zip_second c.next.new.self)) steps.0 steps.1 c.loop-task.invariant
 
-  in_range_lem : in_range (task_of c.in-Some.task.now) ≡ true
-  in_range_lem = placing_range table c.args.rows.now (list_of c.loop-task.all) (task_of c.in-Some.task.now) (tasks_of (iter_rest (zip_first c.next.new.self))) c.in-Some.row.now (iter_rest (zip_second c.next.new.self)) placing
-
 pub nonzero_div-weight : goal.nonzero_div-weight
-nonzero_div-weight c = in_range_period (task_of c.in-Some.task.now) (in_range_lem c)
-
-pub cut_cost-price-requires : goal.cut_cost-price-requires
-cut_cost-price-requires c = in_range_lem (goal.at.cut_cost-price-requires c).In-Some
+nonzero_div-weight c = in_range_period (task_of c.in-Some.task.now) c.in-Some.task.now.ranges
 
 pub placed-requires : goal.placed-requires
 placed-requires c =
     record {
-      range = in_range_lem (goal.at.placed-requires c).In-Some;
       cheap = c.cut_cost-price.ensures.bound;
-      light = weight_light (sealed c.args.table.now) c.span-span.result c.in-Some.task.now.period c.args.table.now.rules c.span-span.ensures.value;
+      light = omega (arith, ap (λ n. n / c.in-Some.task.now.period) c.span-span.ensures.value, weight_small (sealed c.args.table.now) c.args.table.now.table.rules (task_of c.in-Some.task.now));
     }
 
 pub loop-task-preserved : goal.loop-task-preserved
@@ -59,7 +53,7 @@ loop-task-preserved c =
     let rs = iter_rest (zip_second c.next.new.self) in
     let done = list_of c.loop-task.all in
     let is = c.placed.ensures ∙ place_with (table at) t r c.span-span.result c.cut_cost-price.result c.span-span.ensures.value c.cut_cost-price.ensures.value in
-    let more = pushed done (list_of c.push.new.self) c.placed.result 24 c.push.result c.push.ensures.items c.push.ensures.test (placing_room (table at) c.args.rows.now done t ts r rs (placing at)) in
+    let more = pushed done (list_of c.push.new.self) c.placed.result 24 c.push.result c.push.ensures.ok c.push.ensures.variant (placing_room (table at) c.args.rows.now done t ts r rs (placing at)) in
     subst (λ l. Placing (table at) c.args.rows.now l ts rs) (sym (more ∙ ap (λ p. done ++ p ∷ []) is)) (placing_more (table at) c.args.rows.now done t ts r rs (placing at))
 
 pub returns : goal.returns

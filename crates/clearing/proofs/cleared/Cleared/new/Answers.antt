@@ -9,4 +9,4 @@ pub invariant_of-result : goal.invariant_of-result
 invariant_of-result c =
     let table = c.seal.ensures ∙ c.new-empty.ensures in
     let lawful = subst (λ t. Lawful EdfAccepts edf_limit t []) (sym table) (empty_lawful EdfAccepts edf_limit 1) in
-    record { lawful = ∣ subst (λ l. Lawful EdfAccepts edf_limit (sealed c.seal.result) l) (sym c.no_rows.ensures) lawful ∣₁ }
+    record { lawful = ∣ subst (λ l. Lawful EdfAccepts edf_limit (sealed c.seal.result) l) (sym c.default.ensures) lawful ∣₁ }

@@ -14,11 +14,11 @@ kept_rows : (c : After-extend_from_slice) → list_of c.extend_from_slice.new.se
 kept_rows c =
     let table = sealed c.args.table.now in
     let rows = c.args.rows.now in
-    let none = list_of c.no_rows-kept.result in
+    let none = list_of c.default-kept.result in
     let many = fits_long edf_limit table [] table.tasks rows c.in_ok-examine_plan.ensures.fits in
-    let room : length none + length rows ≤ 24 = omega (arith, ap length c.no_rows-kept.ensures, many, (rules_are table c.args.table.now.rules).few) in
-    extended none rows (list_of c.extend_from_slice.new.self) 24 c.extend_from_slice.result c.extend_from_slice.ensures.items c.extend_from_slice.ensures.test room
-    ∙ ap (λ l. l ++ rows) c.no_rows-kept.ensures
+    let room : length none + length rows ≤ 24 = omega (arith, ap length c.default-kept.ensures, many, (rules_are table c.args.table.now.table.rules).few) in
+    extended none rows (list_of c.extend_from_slice.new.self) 24 c.extend_from_slice.result c.extend_from_slice.ensures.ok c.extend_from_slice.ensures.variant room
+    ∙ ap (λ l. l ++ rows) c.default-kept.ensures
 
 pub invariant_of-cleared : goal.invariant_of-cleared
 invariant_of-cleared c =
