@@ -1,5 +1,6 @@
 -- What a state keeps that a cabinet comes to, call by call and over runs. Assumes nothing.
-use Rattle.std.proofs.Common.{◌≡◌, ℕ, ◌-◌, ◌<◌, ◌≤◌, false, List, [], ◌∷◌, ◌++◌, take, Some, sym, ap, ◌∙◌, subst, arith}
+use Rattle.std.proofs.Common.{◌≡◌, ℕ, ◌-◌, ◌<◌, false, not, List, [], ◌∷◌, ◌++◌, take, Some, IfSome, sym, refl, ap, ◌∙◌, subst}
+use Rattle.std.specs.Bool.{then_some}
 use mathlib.Core.Logic.{∥∥₁_elim, ∥∥₁_map}
 use native.Mathlib.Bridge.{le_prop}
 use Rattle.std.specs.List.{AllByRecursion}
@@ -12,7 +13,7 @@ use Rattle.machine.specs.Slots.{is_idle}
 use Rattle.machine.specs.Law.{NeverLate}
 use Rattle.machine.specs.Machine.{State, Reply, slot_at, step, finally, answers, start}
 use Rattle.machine.proofs.Calls.{InTime, in_time_lem}
-use Rattle.machine.proofs.Runs.{step-cores, step_clock, finally-append, answers-append, same_schedulable, never_late_prop, answers-take}
+use Rattle.machine.proofs.Runs.{finally-append, answers-append, same_schedulable, never_late_prop, answers-take}
 use Rattle.machine.proofs.Simulation.{from_start, machine_never_late}
 use Rattle.cabinet.specs.declared.plain.Plain.{Plain}
 use Rattle.cabinet.specs.declared.cabinet.Cabinet.{Cabinet}
@@ -34,13 +35,8 @@ reached_more st next call e r = record {
 }
 
 -- so what a cabinet's type keeps is kept by a call
-pub keeps : (old : Cabinet) (next : Plain) (call : Call) (reply : Reply) → step (state old) call ≡ (state_of next, reply) → (next.cores ≤ 8) × ((next.clock ≤ 1000000000000) × (∥ Reached (state_of next) ∥₁ × Unit {0}))
-keeps old next call reply e =
-    let st = state old in
-    let is : state_of next ≡ (step st call).0 = sym (ap (λ x. x.0) e) in (
-      omega (arith, ap (λ x. x.cores) is, step-cores st call, old.few),
-      (omega (arith, ap (λ x. x.clock) is, step_clock st call old.within), (∥∥₁_map {B = Reached (state_of next)} old.reached (reached_more st (state_of next) call is), tt)),
-    )
+pub keeps : (old : Cabinet) (next : Plain) (call : Call) (reply : Reply) → step (state old) call ≡ (state_of next, reply) → ∥ Reached (state_of next) ∥₁
+keeps old next call reply e = ∥∥₁_map {B = Reached (state_of next)} old.reached (reached_more (state old) (state_of next) call (sym (ap (λ x. x.0) e)))
 
 -- no job is late, in the records
 reached_in_time : (st : State) → Reached st → AllByRecursion (λ s. InTime st.clock s.job s.due) st.slots
@@ -57,9 +53,14 @@ due_later st place x t is busy = ∥∥₁_elim t le_prop (λ r. go x.job x.due 
         subst (λ s. InTime st.clock s.job s.due) (sym (index.2 x)) (All-get_or (λ s. InTime st.clock s.job s.due) st.slots (place - 1) x index.1 (reached_in_time st r))
 
     go : (j : Job) (due : ℕ) → false ≡ is_idle j → InTime st.clock j due → st.clock < due
-    go Idle due e h = let z : ◌≡◌ {A = ℕ} 0 1 = cc in absurd (omega arith)
+    go Idle due e h = absurd cc
     go (Ready k) due e h = h
     go (Inside k left) due e h = h
+
+pub due_of_later : (j : Job) (now due : ℕ) → (false ≡ is_idle j → now < due) → IfSome (then_some (not (is_idle j)) due) (λ d. now < d)
+due_of_later Idle now due h = tt
+due_of_later (Ready k) now due h = h refl
+due_of_later (Inside k left) now due h = h refl
 
 -- no job is late, in the outside reading: the tasks that the state comes from are schedulable, since tasks and cores stay
 pub kept : (st : State) (calls : List Call) (replies : List Reply) → ∥ Reached st ∥₁ → replies ≡ answers st calls → Kept st calls replies

@@ -6,8 +6,7 @@ use Rattle.tasks.specs.declared.refusal.Refusal.{Refusal}
 use Rattle.machine.specs.declared.types.Assigned.{Assigned}
 use Rattle.machine.specs.declared.types.Call.{Call}
 use Rattle.machine.specs.declared.types.Call.TheVariants.{Release, Early, Tick}
-use Rattle.machine.specs.declared.types.Answer.{Answer}
-use Rattle.machine.specs.Machine.{State, Reply, refused, granted, ran, reply_of, step, finally, answers, start}
+use Rattle.machine.specs.Machine.{Answer, State, Reply, refused, granted, ran, reply_of, step, finally, answers, start}
 use Rattle.machine.specs.Law.{NeverLate}
 
 -- what a release or an early answers, as a reply of the machine

@@ -1,5 +1,4 @@
 // The struct alone: specs/Cabinets names it, so its calls stand in a module below.
-ghost use Rattle.std.specs.Prelude.{◌≤◌};
 ghost use Rattle.cabinet.specs.Reached.{Reached};
 ghost use Rattle.cabinet.specs.States.{state_of};
 
@@ -11,7 +10,5 @@ mod calls;
 #[derive(Drop)]
 pub struct Cabinet {
     plain: Plain,
-    ghost few: { plain.cores ≤ 8 },
-    ghost within: { plain.clock ≤ 1000000000000 },
     ghost reached: { ∥ Reached (state_of plain) ∥₁ },
 }

@@ -2,7 +2,6 @@
 #![tactic(auto)]
 
 pub mod cabinet;
-mod jobs;
 mod loading;
 mod plain;
 mod records;
@@ -13,7 +12,7 @@ pub use cabinet::Cabinet;
 mod tests {
     use crate::cabinet::Cabinet;
     use clearing::{Cleared, clear};
-    use machine::{Answer, Call};
+    use machine::{Call, Grant};
     use plans::Row;
     use std::test::Fail;
     use tasks::{Draft, MAX_POINTS, Proposal, Refusal};
@@ -48,12 +47,9 @@ mod tests {
         Ok(Cabinet::load(cleared, start))
     }
 
-    // The number and place of the refusal, or 0 and 0.
-    fn told(res: Result<(), Refusal>) -> (u8, usize) {
-        match res {
-            Ok(()) => (0, 0),
-            Err(refusal) => (refusal.number(), refusal.at()),
-        }
+    // A refusal as its number and place.
+    fn told(res: Result<(), Refusal>) -> Result<(), (u8, usize)> {
+        res.map_err(|refusal| (refusal.number(), refusal.at()))
     }
 
     // The place that a tick lets run.
@@ -66,9 +62,9 @@ mod tests {
     #[test]
     fn urgent_job_waits_for_a_regions_end(rt: HostRuntime) -> Result<(), Fail> {
         let mut cabinet = loaded(&[3], &[], false, 0)?;
-        assert_eq!(rt; told(cabinet.release(2)), (0, 0));
+        assert_eq!(rt; told(cabinet.release(2)), Ok(()));
         assert_eq!(rt; ran(&mut cabinet)?, 2);
-        assert_eq!(rt; told(cabinet.release(1)), (0, 0));
+        assert_eq!(rt; told(cabinet.release(1)), Ok(()));
         assert_eq!(rt; (cabinet.due(1), cabinet.due(2)), (Some(5), Some(10)));
         assert_eq!(rt; ran(&mut cabinet)?, 2);
         assert_eq!(rt; ran(&mut cabinet)?, 2);
@@ -78,20 +74,20 @@ mod tests {
             assert_eq!(rt; ran(&mut cabinet)?, 0);
         }
         assert_eq!(rt; cabinet.clock(), 20);
-        assert_eq!(rt; told(cabinet.release(1)), (15, 1));
+        assert_eq!(rt; told(cabinet.release(1)), Err((15, 1)));
         assert_eq!(rt; ran(&mut cabinet)?, 0);
-        assert_eq!(rt; told(cabinet.release(1)), (0, 0));
+        assert_eq!(rt; told(cabinet.release(1)), Ok(()));
         Ok(())
     }
 
     #[test]
     fn early_ends_one_region(rt: HostRuntime) -> Result<(), Fail> {
         let mut cabinet = loaded(&[3, 1], &[1], true, 0)?;
-        assert_eq!(rt; told(cabinet.release(2)), (0, 0));
-        assert_eq!(rt; told(cabinet.early(1)), (18, 1));
+        assert_eq!(rt; told(cabinet.release(2)), Ok(()));
+        assert_eq!(rt; told(cabinet.early(1)), Err((18, 1)));
         assert_eq!(rt; ran(&mut cabinet)?, 2);
-        assert_eq!(rt; told(cabinet.early(1)), (0, 0));
-        assert_eq!(rt; told(cabinet.early(1)), (18, 1));
+        assert_eq!(rt; told(cabinet.early(1)), Ok(()));
+        assert_eq!(rt; told(cabinet.early(1)), Err((18, 1)));
         // the second region: a block of 1 and the cut's cost
         assert_eq!(rt; ran(&mut cabinet)?, 2);
         assert_eq!(rt; ran(&mut cabinet)?, 2);
@@ -103,11 +99,11 @@ mod tests {
     fn clock_stops_at_its_end(rt: HostRuntime) -> Result<(), Fail> {
         let mut before = loaded(&[3], &[], false, END - 1)?;
         assert_eq!(rt; ran(&mut before)?, 0);
-        assert_eq!(rt; told(before.tick(&mut [9])), (19, 0));
+        assert_eq!(rt; told(before.tick(&mut [9])), Err((19, 0)));
         let mut beyond = loaded(&[3], &[], false, END + 1)?;
         assert_eq!(rt; beyond.clock(), END);
-        assert_eq!(rt; told(beyond.tick(&mut [])), (19, 0));
-        assert_eq!(rt; told(beyond.release(1)), (0, 0));
+        assert_eq!(rt; told(beyond.tick(&mut [])), Err((19, 0)));
+        assert_eq!(rt; told(beyond.release(1)), Ok(()));
         assert_eq!(rt; beyond.due(1), Some(END + 4));
         Ok(())
     }
@@ -116,14 +112,14 @@ mod tests {
     fn wrong_arguments(rt: HostRuntime) -> Result<(), Fail> {
         let mut cabinet = loaded(&[3], &[], false, 0)?;
         let mut row = [7, 8];
-        assert_eq!(rt; told(cabinet.tick(&mut row)), (20, 0));
+        assert_eq!(rt; told(cabinet.tick(&mut row)), Err((20, 0)));
         assert_eq!(rt; (row[0], row[1]), (7, 8));
-        assert_eq!(rt; told(cabinet.tick(&mut [])), (20, 0));
+        assert_eq!(rt; told(cabinet.tick(&mut [])), Err((20, 0)));
         assert_eq!(rt; cabinet.clock(), 0);
-        assert_eq!(rt; told(cabinet.release(0)), (14, 0));
-        assert_eq!(rt; told(cabinet.release(3)), (14, 3));
-        assert_eq!(rt; told(cabinet.early(0)), (17, 0));
-        assert_eq!(rt; told(cabinet.early(2)), (17, 2));
+        assert_eq!(rt; told(cabinet.release(0)), Err((14, 0)));
+        assert_eq!(rt; told(cabinet.release(3)), Err((14, 3)));
+        assert_eq!(rt; told(cabinet.early(0)), Err((17, 0)));
+        assert_eq!(rt; told(cabinet.early(2)), Err((17, 2)));
         Ok(())
     }
 
@@ -132,15 +128,15 @@ mod tests {
         let mut cabinet = loaded(&[3], &[], false, 0)?;
         let tick = Call::Tick { width: 1 };
         let calls = [Call::Release { place: 2 }, tick, tick];
-        let mut log = [Answer::Granted; 2];
+        let mut log = [Ok(Grant::Done); 2];
         assert_eq!(rt; cabinet.run(&calls, &mut log), 2);
         assert_eq!(rt; cabinet.clock(), 1);
-        let mut longer = [Answer::Granted; 4];
+        let mut longer = [Ok(Grant::Done); 4];
         assert_eq!(rt; cabinet.run(&calls, &mut longer), 3);
         assert_eq!(rt; cabinet.clock(), 3);
-        assert!(rt; matches!(longer[0], Answer::Refused(_)));
-        assert!(rt; matches!(longer[2], Answer::Row(_)));
-        assert!(rt; matches!(longer[3], Answer::Granted));
+        assert!(rt; matches!(longer[0], Err(_)));
+        assert!(rt; matches!(longer[2], Ok(Grant::Row(_))));
+        assert!(rt; matches!(longer[3], Ok(Grant::Done)));
         Ok(())
     }
 }

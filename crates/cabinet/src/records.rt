@@ -1,68 +1,53 @@
 // The table of job records, read as a slice and changed by index.
-ghost use Rattle.std.specs.Prelude.{◌≡◌, ◌≤◌, map, length};
+ghost use Rattle.std.specs.Prelude.{◌≡◌, map, length, position};
+ghost use Rattle.std.specs.List.{AllZip};
 ghost use Rattle.bounded.specs.Lists.{list_of};
-ghost use Rattle.machine.specs.Slots.{busy, enter_on, enter_all, tick_all, ended_on, place_on, row_of};
+ghost use Rattle.machine.specs.Slots.{busy, inside_on, enter_on, tick_all, ended_on, place_on};
 ghost use Rattle.machine.specs.Machine.{slot_at};
 ghost use Rattle.machine.specs.Choosing.{Chooses};
 
-use crate::jobs::{is_inside_on, is_ready_on, step};
 use bounded::Bounded;
-use machine::{Event, MAX_ROW, Slot};
+use machine::{Event, Slot};
 use tasks::MAX_TASKS;
 
 // The record of a place, if there is such a place.
 pub fn slot_at(slots: &[Slot], place: usize) -> Option<Slot>
     ensures { result ≡ slot_at place slots.now }
 {
-    if place < 1 || place > slots.len() {
-        None
-    } else {
-        Some(slots[place - 1])
-    }
+    slots.get(place.checked_sub(1)?).copied()
 }
 
 // Whether a region is under way on the core.
 pub fn is_busy(slots: &[Slot], core: u32) -> bool
     ensures { result ≡ busy core slots.now }
 {
-    for slot in slots {
-        if is_inside_on(slot, core) {
-            return true;
-        }
-    }
-    false
+    slots.iter().any(|slot| slot.is_inside_on(core))
 }
 
-// The place whose region is under way on the core, or 0.
+// The index of the record whose region is under way on the core.
+fn running_on(slots: &[Slot], core: u32) -> Option<usize>
+    ensures { result ≡ position (inside_on core) slots.now }
+{
+    slots.iter().position(|slot| slot.is_inside_on(core))
+}
+
+// What the rules write in a row for the core: the place whose region is under way, or 0.
 pub fn place_on(slots: &[Slot], core: u32) -> usize
     ensures { result ≡ place_on core 1 slots.now }
 {
-    for (i, slot) in slots.iter().enumerate() {
-        if is_inside_on(slot, core) {
-            return i + 1;
-        }
-    }
-    0
+    running_on(slots, core).map_or(0, |i| i + 1)
 }
 
 // The index of the ready job of the core with the earliest deadline, the first of equals.
-pub fn choose(slots: &[Slot], core: u32) -> Option<usize>
+fn choose(slots: &[Slot], core: u32) -> Option<usize>
     ensures { Chooses core slots.now (length slots.now) result }
 {
-    let mut best: Option<usize> = None;
-    for (i, slot) in slots.iter().enumerate() {
-        if is_ready_on(slot, core) {
-            match best {
-                Some(b) => {
-                    if slot.due < slots[b].due {
-                        best = Some(i);
-                    }
-                }
-                None => best = Some(i),
-            }
-        }
-    }
-    best
+    slots
+        .iter()
+        .enumerate()
+        .filter(|(_, slot)| slot.runs_on(core) && slot.job.is_ready())
+        .min_by_key(|(_, slot)| slot.due)
+        .map(|(i, _)| i)
 }
 
 // Unless a region is under way on the core, the chosen job enters its next region.
@@ -73,19 +58,19 @@ pub fn enter_core(table: &mut Bounded<Slot, MAX_TASKS>, core: u32)
         return;
     }
     if let Some(i) = choose(table.as_slice(), core) {
-        let mut slot = table.at(i);
-        slot.job = step(&slot.task, slot.job, Event::Enter);
-        table.set(i, slot);
+        let slot = table.at(i);
+        table.set(i, slot.after_event(Event::Enter));
     }
 }
 
-// The same on each core.
-pub fn enter_cores(table: &mut Bounded<Slot, MAX_TASKS>, cores: u32)
-    requires { cores ≤ 8 }
-    ensures { list_of table.new ≡ enter_all cores (list_of table.old) }
+// Puts what `f` makes of each record in its place. By index, as a release and an entry change one: in the cabinet's table
+// records change in one way alone.
+fn change_each<F: Fn(Slot) -> Slot>(table: &mut Bounded<Slot, MAX_TASKS>, f: F)
+    requires { F.IsAlwaysCallable f }
+    ensures { AllZip (λ x y. F.post f x y) (list_of table.old) (list_of table.new) }
 {
-    for c in 0..cores {
-        enter_core(table, c + 1);
+    for i in 0..table.len() {
+        table.set(i, f(table.at(i)));
     }
 }
 
@@ -93,42 +78,18 @@ pub fn enter_cores(table: &mut Bounded<Slot, MAX_TASKS>, cores: u32)
 pub fn tick_all(table: &mut Bounded<Slot, MAX_TASKS>)
     ensures { list_of table.new ≡ tick_all (list_of table.old) }
 {
-    for i in 0..table.len() {
-        let mut slot = table.at(i);
-        slot.job = step(&slot.task, slot.job, Event::Tick);
-        table.set(i, slot);
-    }
-}
-
-// The record after an early on the core.
-fn ended_on(slot: Slot, core: u32) -> Slot
-    ensures { result ≡ ended_on core slot }
-{
-    let mut ended = slot;
-    if slot.task.core == core {
-        ended.job = step(&slot.task, slot.job, Event::Early);
-    }
-    ended
+    change_each(table, |slot| slot.after_event(Event::Tick));
 }
 
 // The region under way on the core ends.
 pub fn end_core(table: &mut Bounded<Slot, MAX_TASKS>, core: u32)
     ensures { list_of table.new ≡ map (ended_on core) (list_of table.old) }
 {
-    for i in 0..table.len() {
-        let ended = ended_on(table.at(i), core);
-        table.set(i, ended);
-    }
-}
-
-// Who is inside a region on each core.
-pub fn row_of(slots: &[Slot], cores: u32) -> Bounded<usize, MAX_ROW>
-    requires { cores ≤ 8 }
-    ensures { list_of result ≡ row_of cores slots.now }
-{
-    let mut row = Bounded::new(0);
-    for c in 0..cores {
-        let _ = row.push(place_on(slots, c + 1));
-    }
-    row
+    change_each(table, |slot| {
+        if slot.runs_on(core) {
+            slot.after_event(Event::Early)
+        } else {
+            slot
+        }
+    });
 }

@@ -99,7 +99,7 @@ module _ (cores now : ℕ) (s : Slot) (f : Fine cores 1 now s) (a : Accepted now
   released_fine = record { sound = f.sound; well = subst (λ (j : Job). Well 1 now s.task j (now + s.task.deadline)) (sym (release_job s.task s.job a.0)) (f.sound.some_region, omega arith) }
 
 changed_at : (Q : Slot → Type 0) (g : Slot → Slot) (i : ℕ) (ss : List Slot) (s : Slot) → slice_get ss i ≡ Some s → Q s → Change Q g ss (change_at i g ss)
-changed_at Q g i [] s e q = let z : ◌≡◌ {A = ℕ} 0 1 = cc in absurd (omega arith)
+changed_at Q g i [] s e q = absurd cc
 changed_at Q g zero (x ∷ ss) s e q = let same : x ≡ s = cc in here (subst Q (sym same) q)
 changed_at Q g (suc i) (x ∷ ss) s e q = there (changed_at Q g i ss s e q)
 

@@ -83,7 +83,7 @@ tail_some true due (Some x) m e f =
 tail_some false due o m e f = e
 
 enters_at : (c m : ℕ) (ss : List Slot) → earliest_due c ss ≡ Some m → Change (Chosen c m) (after_event Enter) ss (enter_due c m ss)
-enters_at c m [] e = let z : ◌≡◌ {A = ℕ} 0 1 = cc in absurd (omega arith)
+enters_at c m [] e = absurd cc
 enters_at c m (s ∷ ss) e =
     cond_both (ready_on c s && eqb s.due m) ((after_event Enter) s ∷ ss) (s ∷ enter_due c m ss) (λ l. Change (Chosen c m) (after_event Enter) (s ∷ ss) l)
     (λ t. let p = and_parts (ready_on c s) (eqb s.due m) t in let q = and_parts (runs_on c s) (is_ready s.job) p.0 in here (q.0, q.1, eqb-true s.due m p.1))

@@ -54,7 +54,7 @@ module _ (tasks : List Assigned) (st : State) (W : ℕ → Assigned → Watch) (
   Next call reply = λ q t. seen t q (W q t) call reply
 
   release_sim : (p : ℕ) → Releasable st.clock (slot_at p st.slots) → Sim tasks (released_state st p) (Next (Release p) granted)
-  release_sim zero r = let e : ◌≡◌ {A = Option Slot} None (Some r.slot) = r.there_is in let z : ◌≡◌ {A = ℕ} 0 1 = cc in absurd (omega arith)
+  release_sim zero r = let e : ◌≡◌ {A = Option Slot} None (Some r.slot) = r.there_is in absurd cc
   release_sim (suc i) r = record {
     schedulable = s.schedulable;
     invariant = release_invariant st.cores st.clock tasks st.slots (suc i) s.schedulable s.invariant r;

@@ -1,5 +1,5 @@
 -- What it takes that a call is not refused. Assumes nothing.
-use Rattle.std.proofs.Common.{◌≡◌, ℕ, zero, suc, Bool, true, false, List, [], ◌∷◌, Some, None, Option, refl, arith}
+use Rattle.std.proofs.Common.{◌≡◌, ℕ, zero, suc, Bool, true, false, List, [], ◌∷◌, Some, None, Option, refl}
 use Rattle.std.proofs.lemmas.Bool.{not-false}
 use Rattle.tasks.specs.Refusals.{first_of}
 use Rattle.tasks.specs.declared.refusal.Refusal.{Refusal}
@@ -14,8 +14,8 @@ use Rattle.machine.proofs.Calls.{Accepted, release_keeps}
 
 -- neither of two conditions is met
 pub unrefused : (a b : Bool) (x y : Refusal) → first_of ((a, x) ∷ (b, y) ∷ []) ≡ None → (a ≡ false) × (b ≡ false)
-unrefused true b x y e = let z : ◌≡◌ {A = ℕ} 0 1 = cc in absurd (omega arith)
-unrefused false true x y e = let z : ◌≡◌ {A = ℕ} 0 1 = cc in absurd (omega arith)
+unrefused true b x y e = absurd cc
+unrefused false true x y e = absurd cc
 unrefused false false x y e = (refl, refl)
 
 -- there is a record whose release is accepted
@@ -25,7 +25,7 @@ pub record Releasable (now : ℕ) (o : Option Slot) : Type 0 where
   pub accepted : Accepted now slot
 
 pub releasable : (now place : ℕ) (o : Option Slot) → release_refusal now place o ≡ None → Releasable now o
-releasable now place None e = let z : ◌≡◌ {A = ℕ} 0 1 = cc in absurd (omega arith)
+releasable now place None e = absurd cc
 releasable now place (Some s) e =
     let h = unrefused _ _ (EarlyRelease place) (UnfinishedJob place) e in
     record { slot = s; there_is = refl; accepted = (not-false (is_idle s.job) h.1, not-false (period_passed now s.task s.last) h.0) }

@@ -1,5 +1,5 @@
 -- The machine: what each call answers, and what the state is after it.
-use Rattle.std.specs.Prelude.{ℕ, zero, suc, min, not, List, [], ◌∷◌, map, Some, None, Option, ◌==◌, nat_le}
+use Rattle.std.specs.Prelude.{ℕ, zero, suc, min, not, List, [], ◌∷◌, map, Some, None, Option, Ok, Err, Result, ◌==◌, nat_le}
 use Rattle.std.specs.List.{slice_get}
 use Rattle.bounded.specs.Lists.{list_of}
 use Rattle.tasks.specs.Tasks.{between}
@@ -10,8 +10,8 @@ use Rattle.machine.specs.declared.types.Assigned.{Assigned}
 use Rattle.machine.specs.declared.types.Slot.{Slot}
 use Rattle.machine.specs.declared.types.Call.{Call}
 use Rattle.machine.specs.declared.types.Call.TheVariants.{Release, Early, Tick}
-use Rattle.machine.specs.declared.types.Answer.{Answer}
-use Rattle.machine.specs.declared.types.Answer.TheVariants.{Refused, Granted, Row}
+use Rattle.machine.specs.declared.types.Grant.{Grant}
+use Rattle.machine.specs.declared.types.Grant.TheVariants.{Done, Row}
 use Rattle.machine.specs.Slots.{is_idle, period_passed, released, ended_on, busy, enter_all, tick_all, row_of, change_at, unreleased}
 
 -- the cores, the clock, and the job record of each place
@@ -26,11 +26,15 @@ pub data Reply : Type 0 where
   granted : Reply
   ran : (row : List ℕ) → Reply
 
--- what the code answers, as a reply of the machine
+-- what the code answers
+abbrev pub Answer : Type 0
+Answer = Result Grant Refusal
+
+-- the same, as a reply of the machine
 abbrev pub reply_of : Answer → Reply
-reply_of (Refused refusal) = refused refusal
-reply_of Granted = granted
-reply_of (Row row) = ran (list_of row)
+reply_of (Ok Done) = granted
+reply_of (Ok (Row row)) = ran (list_of row)
+reply_of (Err refusal) = refused refusal
 
 -- the end of the clock
 abbrev pub clock_end : ℕ

@@ -1,7 +1,7 @@
 -- Job records: what an event does to a job, and what a call does to one record or to all of them.
 -- Places and cores count from 1, the regions of a task from 0.
-use Rattle.std.specs.Prelude.{ℕ, zero, suc, ◌+◌, ◌-◌, min, Bool, true, false, cond, ◌&&◌, ◌||◌, List, [], ◌∷◌, map, length, Some, None, Option, ◌==◌, nat_le, nat_lt, slice_index}
-use Rattle.std.specs.List.{range_with_len}
+use Rattle.std.specs.Prelude.{ℕ, zero, suc, ◌+◌, ◌-◌, min, Bool, true, false, cond, ◌&&◌, List, [], ◌∷◌, map, length, Some, None, Option, ◌==◌, nat_le, nat_lt, slice_index}
+use Rattle.std.specs.List.{list_any, range_with_len}
 use Rattle.bounded.specs.Lists.{list_of}
 use Rattle.machine.specs.declared.types.Assigned.{Assigned}
 use Rattle.machine.specs.declared.types.Job.{Job}
@@ -74,10 +74,13 @@ released now s = record { task = s.task; job = step_job s.task s.job Release; du
 abbrev pub ended_on : ℕ → Slot → Slot
 ended_on c s = with_job s (cond (runs_on c s) (step_job s.task s.job Early) s.job)
 
+-- the job is inside a region, on the core
+abbrev pub inside_on : ℕ → Slot → Bool
+inside_on c s = runs_on c s && is_inside s.job
+
 -- a region is under way on the core
 abbrev pub busy : ℕ → List Slot → Bool
-busy c [] = false
-busy c (s ∷ ss) = (runs_on c s && is_inside s.job) || busy c ss
+busy c ss = list_any (inside_on c) ss
 
 -- the job is ready, on the core
 abbrev pub ready_on : ℕ → Slot → Bool
@@ -120,7 +123,7 @@ tick_all ss = map (after_event Tick) ss
 -- the place whose region is under way on the core, where the first record has place p; 0 if there is none
 abbrev pub place_on : ℕ → ℕ → List Slot → ℕ
 place_on c p [] = 0
-place_on c p (s ∷ ss) = cond (runs_on c s && is_inside s.job) p (place_on c (suc p) ss)
+place_on c p (s ∷ ss) = cond (inside_on c s) p (place_on c (suc p) ss)
 
 -- the row of a tick: the places that run on the cores 1 to n
 abbrev pub row_of : ℕ → List Slot → List ℕ

@@ -7,32 +7,24 @@ ghost use Rattle.machine.specs.Assigning.{LawfulIsSchedulable};
 
 pub mod types;
 
-pub use types::{Answer, Assigned, Call, Event, Job, MAX_ROW, Slot};
+pub use types::{Answer, Assigned, Call, Event, Grant, Job, MAX_ROW, Slot};
 
 // Under any list of calls, no job that the outside reading has as unfinished is at its deadline.
-pub fn never_late() -> bool
+pub fn never_late()
     ensures { MachineNeverLate }
-{
-    true
-}
+{}
 
 // The outside reading has just the jobs that the records have.
-pub fn reading_agrees() -> bool
+pub fn reading_agrees()
     ensures { ReadingAgrees }
-{
-    true
-}
+{}
 
 // The clock of the outside reading is the machine's.
-pub fn same_clock() -> bool
+pub fn same_clock()
     ensures { SameClock }
-{
-    true
-}
+{}
 
 // A plan that is lawful under the EDF test assigns tasks that the machine can run in time.
-pub fn lawful_is_schedulable() -> bool
+pub fn lawful_is_schedulable()
     ensures { LawfulIsSchedulable }
-{
-    true
-}
+{}

@@ -2,11 +2,13 @@
 use bounded::Bounded;
 use tasks::{MAX_BLOCKS, Refusal};
 
+mod jobs;
+
 // The longest row of a tick: one number for each core that a cabinet may have.
 pub const MAX_ROW: usize = 8;
 
 // A task as a plan assigns it to a core, with the lengths of its regions.
-#[derive(Clone, Copy)]
+#[derive(Clone, Copy, Default)]
 pub struct Assigned {
     pub core: u32,
     // the least gap between two releases
@@ -17,9 +19,10 @@ pub struct Assigned {
 }
 
 // What a job is doing. Its regions count from 0.
-#[derive(Clone, Copy)]
+#[derive(Clone, Copy, PartialEq, Eq, Debug, Default)]
 pub enum Job {
     // nothing: it was never released, or its last region is done
+    #[default]
     Idle,
     // it waits to enter this region
     Ready(usize),
@@ -28,11 +31,12 @@ pub enum Job {
 }
 
 // The job record of one place.
-#[derive(Clone, Copy)]
+#[derive(Clone, Copy, Default)]
 pub struct Slot {
     pub task: Assigned,
     pub job: Job,
-    // the deadline of the job, as a clock
+    // the deadline of the job, as a clock; it stands beside the job and not in it, so that what an event does to a job
+    // need not carry it along
     pub due: u64,
     // the clock of the task's last accepted release
     pub last: Option<u64>,
@@ -55,10 +59,12 @@ pub enum Call {
     Tick { width: usize },
 }
 
-// What the cabinet answers: a refusal, that a release or an early is granted, or the row of a granted tick.
+// What a granted call gives: nothing more for a release or an early, and its row for a tick.
 #[derive(Clone, Copy)]
-pub enum Answer {
-    Refused(Refusal),
-    Granted,
+pub enum Grant {
+    Done,
     Row(Bounded<usize, MAX_ROW>),
 }
+
+// What the cabinet answers.
+pub type Answer = Result<Grant, Refusal>;

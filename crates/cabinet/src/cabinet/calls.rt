@@ -5,7 +5,6 @@ ghost use Rattle.cabinet.specs.Calls.{Releases, Ends, Ticks, Answers, Runs};
 ghost use Rattle.cabinet.specs.Cabinets.{state, Loaded, due_of};
 
 use super::Cabinet;
-use crate::jobs::is_idle;
 use crate::loading::{assign_all, started};
 use crate::records::slot_at;
 use clearing::Cleared;
@@ -19,7 +18,7 @@ impl Cabinet {
     {
         let tasks = assign_all(plan.table(), plan.rows());
         Cabinet {
-            plain: started(tasks.as_slice(), plan.table().cores(), start),
+            plain: started(&tasks, plan.table().cores(), start),
         }
     }
 
@@ -41,13 +40,9 @@ impl Cabinet {
     pub fn tick(&mut self, row: &mut [usize]) -> Result<(), Refusal>
         ensures { Ticks (state self.old) row.old result (state self.new) row.new }
     {
-        match self.plain.tick(row.len()) {
-            Ok(ran) => {
-                row.copy_from_slice(ran.as_slice());
-                Ok(())
-            }
-            Err(refusal) => Err(refusal),
-        }
+        let ran = self.plain.tick(row.len())?;
+        row.copy_from_slice(ran.as_slice());
+        Ok(())
     }
 
     // Any one call.
@@ -62,8 +57,9 @@ impl Cabinet {
         ensures { Runs (state self.old) calls.now log.old result (state self.new) log.new }
     {
         let count = calls.len().min(log.len());
-        for i in 0..count {
-            log[i] = self.answer(calls[i]);
+        for (i, call) in calls[..count].iter().enumerate() {
+            // written by index: a zip with the log's `iter_mut` would tell only the log's length afterwards
+            log[i] = self.answer(*call);
         }
         count
     }
@@ -79,9 +75,7 @@ impl Cabinet {
         ensures value { result ≡ due_of (slot_at place (state self.now).slots) }
         ensures later { IfSome result (λ d. (state self.now).clock < d) }
     {
-        match slot_at(self.plain.slots.as_slice(), place) {
-            Some(slot) if !is_idle(slot.job) => Some(slot.due),
-            _ => None,
-        }
+        let slot = slot_at(self.plain.slots.as_slice(), place)?;
+        (!slot.job.is_idle()).then_some(slot.due)
     }
 }

@@ -14,7 +14,7 @@ pub returns-in-Some : goal.returns-in-Some
 returns-in-Some c =
     let core = c.args.core in
     let chosen = subst (λ l. Chooses core l (length l) (Some c.in-Some.i)) c.as_slice-2.ensures.value c.in-Some.ensures in
-    c.set.ensures ∙ chosen_enters core (list_of c.args.table.now) c.in-Some.i c.at-slot.result c.step-slot.result (ap (busy core) (sym c.as_slice.ensures.value) ∙ sym c.if-is_busy.ensures) chosen c.at-slot.ensures c.step-slot.ensures
+    c.set.ensures ∙ chosen_enters core (list_of c.args.table.now) c.in-Some.i c.at-slot.result c.after_event.result (ap (busy core) (sym c.as_slice.ensures.value) ∙ sym c.if-is_busy.ensures) chosen c.at-slot.ensures c.after_event.ensures
 
 pub returns-in_default : goal.returns-in_default
 returns-in_default c =

@@ -4,7 +4,7 @@ use Rattle.clearing.specs.Clearing.{table_in, rows_in}
 use Rattle.machine.specs.Assigning.{AssignedAll}
 use Rattle.machine.specs.Machine.{start}
 use Rattle.cabinet.specs.States.{state_of}
-use Rattle.cabinet.proofs.Plans.{plan_level, load_keeps, load-starts}
+use Rattle.cabinet.proofs.Plans.{plan_level, load_reaches, load-starts}
 use Rattle.cabinet.proofs.cabinet.Cabinet.load.Goals as goal
 use Rattle.cabinet.proofs.cabinet.Cabinet.load.Goals.{After-started}
 
@@ -20,13 +20,12 @@ module _ (c : After-started) where
   starts : state_of c.started.result ≡ start (table_in c.args.plan).cores c.args.start (list_of c.assign_all-tasks.result)
   starts =
       let cores = c.cores.ensures ∙ ap (λ t. t.cores) c.table-2.ensures in
-      c.started.ensures ∙ (λ i. start (cores i) c.args.start (c.as_slice.ensures.value i))
+      c.started.ensures ∙ (λ i. start (cores i) c.args.start (list_of c.assign_all-tasks.result))
 
 pub invariant_of-result : goal.invariant_of-result
 invariant_of-result c =
     let at = (goal.at.invariant_of-result c).After-started in
-    let kept = load_keeps c.args.plan c.args.start (list_of c.assign_all-tasks.result) (assigned at) c.started.result (starts at) in
-    record { few = kept.0; within = kept.1.0; reached = kept.1.1.0 }
+    record { reached = load_reaches c.args.plan c.args.start (list_of c.assign_all-tasks.result) (assigned at) (state_of c.started.result) (starts at) }
 
 pub returns : goal.returns
 returns c =

@@ -4,6 +4,4 @@ use Rattle.cabinet.proofs.Reaching.{keeps}
 use Rattle.cabinet.proofs.cabinet.Cabinet.release.Goals as goal
 
 pub invariant_of-self : goal.invariant_of-self
-invariant_of-self c =
-    let kept = keeps c.args.self.now c.release.new.self (Release c.args.place) (grant_of c.release.result) c.release.ensures in
-    record { few = kept.0; within = kept.1.0; reached = kept.1.1.0 }
+invariant_of-self c = record { reached = keeps c.args.self.now c.release.new.self (Release c.args.place) (grant_of c.release.result) c.release.ensures }

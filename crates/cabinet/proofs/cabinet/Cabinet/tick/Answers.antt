@@ -8,11 +8,9 @@ use Rattle.cabinet.proofs.Reaching.{keeps}
 use Rattle.cabinet.proofs.cabinet.Cabinet.tick.Goals as goal
 
 pub invariant_of-self : goal.invariant_of-self
-invariant_of-self c =
-    let kept = keeps c.args.self.now c.tick.new.self (Tick (length c.args.row.now)) (ran_of c.tick.result) c.tick.ensures in
-    record { few = kept.0; within = kept.1.0; reached = kept.1.1.0 }
+invariant_of-self c = record { reached = keeps c.args.self.now c.tick.new.self (Tick (length c.args.row.now)) (ran_of c.tick.result) c.tick.ensures }
 
 pub copy_from_slice-requires : goal.copy_from_slice-requires
 copy_from_slice-requires c =
-    let long = row_long (state c.args.self.now) (length c.args.row.now) (list_of c.in-Ok.ran) (sym (ap (λ x. x.1) c.in-Ok.ensures)) in
+    let long = row_long (state c.args.self.now) (length c.args.row.now) (list_of c.in_ok-ran.ran) (sym (ap (λ x. x.1) c.in_ok-ran.ensures)) in
     sym (ap length c.as_slice.ensures.value ∙ long)

@@ -1,8 +1,9 @@
-use Rattle.std.proofs.Common.{◌≡◌, suc, ◌-◌, Some, sym, ap, ◌∙◌, arith}
+use Rattle.std.proofs.Common.{◌≡◌, ◌+◌, ◌-◌, set, Some, refl, sym, ap, ◌∙◌, arith}
 use Rattle.bounded.specs.Lists.{list_of}
-use Rattle.machine.specs.Machine.{slot_at}
-use Rattle.machine.proofs.Bridge.{release_allowed, release_step}
-use Rattle.cabinet.specs.States.{state_of}
+use Rattle.machine.specs.Slots.{released}
+use Rattle.machine.specs.Machine.{slot_at, granted}
+use Rattle.machine.proofs.Bridge.{release_step}
+use Rattle.cabinet.specs.States.{state_of, with_slots}
 use Rattle.cabinet.proofs.Indexing.{slot_index}
 use Rattle.cabinet.proofs.plain.Plain.release.Goals as goal
 use Rattle.cabinet.proofs.plain.Plain.release.Goals.{In-Some}
@@ -19,10 +20,6 @@ returns c =
     let st = state_of c.args.self.now in
     let place = c.args.place in
     let slot = c.in-Some.slot in
-    let is = found (goal.at.returns c).In-Some in
-    let index = slot_index place st.slots slot is in
-    let allowed = release_allowed st.clock place (slot_at place st.slots) slot (sym is) c.if-not-has_period_passed.ensures c.if-not-is_idle.ensures in
-    let place_is : place ≡ suc (place - 1) = omega (arith, index.0) in
-    let done = release_step st (place - 1) place slot c.step-slot.result place_is allowed index.2 c.step-slot.ensures in
-    let slots = ap (λ l. record { cores = st.cores; clock = st.clock; slots = l }) c.set.ensures in
-    λ i. (sym (slots ∙ done.0) i, sym done.1 i)
+    let slots : list_of c.set.new.self ≡ set st.slots (place - 1) (released st.clock slot) =
+    c.set.ensures ∙ (λ i. set st.slots (place - 1) (record { task = (c.after_event.ensures i).task; job = (c.after_event.ensures i).job; due = st.clock + c.from.ensures i; last = Some st.clock })) in
+    release_step st place slot (released st.clock slot) (found (goal.at.returns c).In-Some) c.if-not-has_period_passed.ensures c.if-not-is_idle.ensures refl ∙ ap (λ l. (with_slots st l, granted)) (sym slots)
