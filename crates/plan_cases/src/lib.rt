@@ -4,11 +4,9 @@
 ghost use Rattle.plan_cases.specs.Cases.{WorkedCases};
 
 // The cases are facts about the rules themselves: the clause is a theorem.
-pub fn worked_cases() -> bool
+pub fn worked_cases()
     ensures { WorkedCases }
-{
-    true
-}
+{}
 
 #[cfg(test)]
 mod tests;

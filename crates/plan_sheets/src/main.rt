@@ -1,30 +1,13 @@
-// Answers each of the sheets in this folder that the arguments name, as `planner` would.
+// Answers each of the sheets in this folder that the arguments name with its plan, or with the line that tells why it has none.
 #![tactic(auto)]
 
 use anyhow::anyhow;
-use rehearsals::{MAX_SHEET, MAX_TEXT, answer};
-use std::io::{Read, Write};
-use std::{env, fs};
-
-fn tell(rt: &HostRuntime, name: &str) -> anyhow::Result<()> {
-    let path = format!(in rt.alloc(); "{name}.sheet")?;
-    let mut sheet = Vec::new(rt.alloc());
-    fs::open(rt, path.as_str())?
-        .take(MAX_SHEET)
-        .read_to_end(&mut sheet)?;
-    let mut text = [0; MAX_TEXT];
-    match answer(sheet.as_slice(), &mut text) {
-        Ok(len) => {
-            print!(rt; "{name}: ")?;
-            Ok(rt.stdout().write_all(&text[0..len])?)
-        }
-        Err(_) => Err(anyhow!("the text does not fit its buffer")),
-    }
-}
+use console::write_named;
+use rehearsals::{MAX_TEXT, answer};
 
 fn main(rt: HostRuntime) -> anyhow::Result<()> {
-    for name in env::args(&rt)?.skip(1) {
-        tell(&rt, name.as_str())?;
-    }
-    Ok(())
+    let told = |sheet: &[u8], text: &mut [u8]| {
+        answer(sheet, text).map_err(|_| anyhow!("the text does not fit its buffer"))
+    };
+    write_named(&rt, told, &mut [0; MAX_TEXT], &mut rt.stdout())
 }

@@ -1,2 +1,1 @@
-mod Appends
 pub mod PlanTexts

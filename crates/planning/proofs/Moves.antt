@@ -5,12 +5,11 @@ use Rattle.std.specs.List.{AllByRecursion}
 use Rattle.std.proofs.lemmas.List.{same_from_push, nil_from_length}
 use Rattle.std.proofs.lemmas.Bool.{ltb-true, ltb-false}
 use Rattle.tasks.specs.Tasks.{Task, Table, weight}
-use Rattle.tasks.specs.Cuts.{cut_cost}
 use Rattle.coretests.specs.declared.entry.Entry.{Entry}
 use Rattle.cuts.specs.Allowed.{LeastCuts}
 use Rattle.plans.specs.declared.types.Row.{Row}
 use Rattle.plans.specs.declared.types.Placed.{Placed}
-use Rattle.plans.specs.Plans.{place, placed_with, places, on_core, Held, Lawful, cost, cores}
+use Rattle.plans.specs.Plans.{place, places, on_core, Held, Lawful, cost, cores}
 use Rattle.optimality.specs.Tests.{Laws}
 use Rattle.optimality.specs.Beginnings.{Before, Begun, Leads, Cheaper, Unplaceable, Spare}
 use Rattle.optimality.proofs.Order.{Begins}
@@ -18,7 +17,6 @@ use Rattle.optimality.proofs.Steps as steps
 use Rattle.optimality.proofs.Steps.{Here, cores_push, cores-length, places_push, cost_push, greedy_pop, greedy_last, held_pop}
 use Rattle.optimality.proofs.Symmetry.{passed_over}
 use Rattle.planning.specs.declared.types.Planned.{Planned}
-use Rattle.planning.specs.declared.types.Found.{Found}
 use Rattle.planning.specs.Planning.{rows_of}
 use Rattle.planning.specs.Walk.{Priced, Over, Ended, PutWell, beats, left}
 use Rattle.planning.proofs.Measure.{left_back}
@@ -56,7 +54,7 @@ module _ {accepts : List Entry → Type 0} {limit : List Entry → ℕ → Optio
     pub move_unplaceable : PutWell accepts limit (weight table t) ps t core None → Over accepts limit table rs ps (core + 1) price best
     move_unplaceable well = move_next h (steps.unplaceable laws table rs t here over.begun core over.low h in_hand (subst (λ (xs : List Placed). Unplaceable accepts limit table xs t core) over.placed_are (well table)))
 
-    module _ (f : Found) (well : PutWell accepts limit (weight table t) ps t core (Some f)) where
+    module _ (f : Placed) (well : PutWell accepts limit (weight table t) ps t core (Some f)) where
       abbrev k : ℕ
       k = f.row.core
 
@@ -69,8 +67,8 @@ module _ {accepts : List Entry → Type 0} {limit : List Entry → ℕ → Optio
       core_is : k ≡ core
       core_is = well'.0
 
-      pub placed_is : f.placed ≡ place table t f.row
-      placed_is = well'.1 ∙ ap (λ (x : ℕ). placed_with t x (cut_cost t f.row.cuts) (weight table t)) (sym core_is)
+      pub placed_is : f ≡ place table t f.row
+      placed_is = well'.1
 
       least : LeastCuts (limit (on_core k before) t.deadline) t f.row.cuts
       least = subst (λ (x : ℕ). LeastCuts (limit (on_core x before) t.deadline) t f.row.cuts) (sym core_is) well'.2
@@ -90,25 +88,25 @@ module _ {accepts : List Entry → Type 0} {limit : List Entry → ℕ → Optio
       more_begun : Begun accepts limit table more
       more_begun = steps.more_begun laws table rs t here over.begun k f.row.cuts k_low k_high least accepted
 
-      pub price_more : price + f.placed.overhead ≡ cost table more
+      pub price_more : price + f.overhead ≡ cost table more
       price_more = omega (arith, over.price_is, ap (λ (x : Placed). x.overhead) placed_is, cost_push table table.tasks rs t f.row here)
 
       more-length : length more ≡ length rs + 1
       more-length = length-append rs (f.row ∷ [])
 
       -- it costs no less than the plan in hand
-      pub move_dear : beats (price + f.placed.overhead) best ≡ false → Over accepts limit table rs ps (core + 1) price best
+      pub move_dear : beats (price + f.overhead) best ≡ false → Over accepts limit table rs ps (core + 1) price best
       move_dear dear = move_next h (go best dear over.priced over.leads)
         where
-          go : (b : Option Planned) → beats (price + f.placed.overhead) b ≡ false → Priced table b → Leads accepts limit table (cores rs ++ core ∷ []) (option_map rows_of b) → (qs : List Row) → Lawful accepts limit table qs → Begins (cores qs) (cores rs ++ core ∷ []) → steps.Beaten table (option_map rows_of b) qs
+          go : (b : Option Planned) → beats (price + f.overhead) b ≡ false → Priced table b → Leads accepts limit table (cores rs ++ core ∷ []) (option_map rows_of b) → (qs : List Row) → Lawful accepts limit table qs → Begins (cores qs) (cores rs ++ core ∷ []) → steps.Beaten table (option_map rows_of b) qs
           go None e pr l = let z : ◌≡◌ {A = ℕ} 0 1 = cc in absurd (omega arith)
           go (Some b) e pr l =
               subst (λ (x : ℕ). Before (cores (rows_of b)) (cores rs ++ x ∷ []) → (qs : List Row) → Lawful accepts limit table qs → Begins (cores qs) (cores rs ++ x ∷ []) → steps.Beaten table (Some (rows_of b)) qs) core_is
-              (steps.too_dear laws table rs t here over.begun k f.row.cuts k_low k_high least (rows_of b) (omega (arith, ltb-false (price + f.placed.overhead) b.cost e, pr, price_more)))
+              (steps.too_dear laws table rs t here over.begun k f.row.cuts k_low k_high least (rows_of b) (omega (arith, ltb-false (price + f.overhead) b.cost e, pr, price_more)))
               l.1
 
       -- ONE TASK FURTHER DOWN
-      pub move_deeper : length rs + 1 < length table.tasks → Over accepts limit table more (ps ++ f.placed ∷ []) 1 (price + f.placed.overhead) best
+      pub move_deeper : length rs + 1 < length table.tasks → Over accepts limit table more (ps ++ f ∷ []) 1 (price + f.overhead) best
       move_deeper short = record {
         short = omega (arith, more-length);
         low = omega arith;
@@ -124,11 +122,11 @@ module _ {accepts : List Entry → Type 0} {limit : List Entry → ℕ → Optio
       cores-more = cores_push rs f.row ∙ ap (λ (x : ℕ). cores rs ++ x ∷ []) core_is
 
       -- A WHOLE PLAN, cheaper than the one in hand
-      cheaper : (b : Option Planned) → beats (price + f.placed.overhead) b ≡ true → Priced table b → Cheaper table (cost table more) (option_map rows_of b)
+      cheaper : (b : Option Planned) → beats (price + f.overhead) b ≡ true → Priced table b → Cheaper table (cost table more) (option_map rows_of b)
       cheaper None e pr = tt
-      cheaper (Some b) e pr = omega (arith, ltb-true (price + f.placed.overhead) b.cost e, pr, price_more)
+      cheaper (Some b) e pr = omega (arith, ltb-true (price + f.overhead) b.cost e, pr, price_more)
 
-      pub move_whole : AllByRecursion (λ t. 1 ≤ weight table t) table.tasks → length rs + 1 ≡ length table.tasks → beats (price + f.placed.overhead) best ≡ true → (p : Planned) → rows_of p ≡ more → p.cost ≡ price + f.placed.overhead → Over accepts limit table rs ps (core + 1) price (Some p)
+      pub move_whole : AllByRecursion (λ t. 1 ≤ weight table t) table.tasks → length rs + 1 ≡ length table.tasks → beats (price + f.overhead) best ≡ true → (p : Planned) → rows_of p ≡ more → p.cost ≡ price + f.overhead → Over accepts limit table rs ps (core + 1) price (Some p)
       move_whole heavy full cheap p rows cost_is =
           let led = steps.whole laws table rs t here over.begun k f.row.cuts k_low k_high least heavy more_begun (more-length ∙ full) in_hand (cheaper best cheap over.priced) leads_k in
           record {
@@ -158,8 +156,8 @@ module _ {accepts : List Entry → Type 0} {limit : List Entry → ℕ → Optio
     pushed : (ps₀ ≡ places table table.tasks rs₀) × (p ≡ place table t r)
     pushed = same_from_push ps₀ (places table table.tasks rs₀) p (place table t r) (sym placed ∙ over.placed_are ∙ ap (places table table.tasks) rows ∙ places_push table table.tasks rs₀ t r here)
 
-    last_core : p.core ≡ r.core
-    last_core = ap (λ (x : Placed). x.core) pushed.1
+    last_core : p.row.core ≡ r.core
+    last_core = ap (λ (x : Placed). x.row.core) pushed.1
 
     priced_last : price ≡ cost table rs₀ + p.overhead
     priced_last = over.price_is ∙ ap (cost table) rows ∙ cost_push table table.tasks rs₀ t r here ∙ ap (λ (x : Placed). cost table rs₀ + x.overhead) (sym pushed.1)
@@ -170,18 +168,18 @@ module _ {accepts : List Entry → Type 0} {limit : List Entry → ℕ → Optio
     begun_last : Begun accepts limit table (rs₀ ++ r ∷ [])
     begun_last = subst (Begun accepts limit table) rows over.begun
 
-    pub back_core : p.core ≤ table.cores
+    pub back_core : p.row.core ≤ table.cores
     back_core = omega (arith, last_core, (greedy_last limit table [] table.tasks rs₀ r begun_last.greedy).1)
 
     length_last : length rs ≡ length rs₀ + 1
     length_last = ap length rows ∙ length-append rs₀ (r ∷ [])
 
-    cores_last : cores rs ≡ cores rs₀ ++ p.core ∷ []
+    cores_last : cores rs ≡ cores rs₀ ++ p.row.core ∷ []
     cores_last = ap cores rows ∙ cores_push rs₀ r ∙ ap (λ (x : ℕ). cores rs₀ ++ x ∷ []) (sym last_core)
 
-    pub move_back : Over accepts limit table rs₀ ps₀ (p.core + 1) (price - p.overhead) best
+    pub move_back : Over accepts limit table rs₀ ps₀ (p.row.core + 1) (price - p.overhead) best
     move_back =
-        let led : Leads accepts limit table ((cores rs₀ ++ p.core ∷ []) ++ core ∷ []) in_hand = subst (λ (x : List ℕ). Leads accepts limit table (x ++ core ∷ []) in_hand) cores_last over.leads in
+        let led : Leads accepts limit table ((cores rs₀ ++ p.row.core ∷ []) ++ core ∷ []) in_hand = subst (λ (x : List ℕ). Leads accepts limit table (x ++ core ∷ []) in_hand) cores_last over.leads in
         record {
           short = omega (arith, over.short, length_last);
           low = omega arith;
@@ -189,9 +187,9 @@ module _ {accepts : List Entry → Type 0} {limit : List Entry → ℕ → Optio
           placed_are = pushed.0;
           price_is = omega (arith, priced_last);
           begun = record { greedy = greedy_pop limit table [] table.tasks rs₀ r begun_last.greedy; held = held_pop laws (places table table.tasks rs₀) (place table t r) (subst (Held accepts) (places_push table table.tasks rs₀ t r here) begun_last.held) };
-          leads = subst (λ (x : ℕ). Leads accepts limit table (cores rs₀ ++ x ∷ []) in_hand) (sym (add-one p.core)) (steps.leads_back laws table (cores rs₀) p.core core in_hand h (omega (arith, cores-length rs₀, length_last, over.short)) led);
+          leads = subst (λ (x : ℕ). Leads accepts limit table (cores rs₀ ++ x ∷ []) in_hand) (sym (add-one p.row.core)) (steps.leads_back laws table (cores rs₀) p.row.core core in_hand h (omega (arith, cores-length rs₀, length_last, over.short)) led);
           priced = over.priced;
         }
 
-    pub back_fewer : left table.cores (length table.tasks) (cores rs₀) (p.core + 1) < left table.cores (length table.tasks) (cores rs) core
-    back_fewer = subst (λ (x : List ℕ). left table.cores (length table.tasks) (cores rs₀) (p.core + 1) < left table.cores (length table.tasks) x core) (sym cores_last) (left_back table.cores (length table.tasks) (cores rs₀) p.core core (omega (arith, cores-length rs₀, length_last, over.short)) over.high)
+    pub back_fewer : left table.cores (length table.tasks) (cores rs₀) (p.row.core + 1) < left table.cores (length table.tasks) (cores rs) core
+    back_fewer = subst (λ (x : List ℕ). left table.cores (length table.tasks) (cores rs₀) (p.row.core + 1) < left table.cores (length table.tasks) x core) (sym cores_last) (left_back table.cores (length table.tasks) (cores rs₀) p.row.core core (omega (arith, cores-length rs₀, length_last, over.short)) over.high)

@@ -8,7 +8,9 @@ mod placing;
 pub mod types;
 mod walk;
 
+use bounded::Bounded;
 use coretests::CoreTest;
+use plans::Row;
 use tasks::{Refusal, Sealed};
 pub use types::{Planned, Search};
 
@@ -17,12 +19,11 @@ pub use types::{Planned, Search};
 pub fn plan<C: CoreTest>(table: &Sealed, test: &C) -> Result<Planned, Refusal>
     ensures { Plans (C.accepts test.now) (C.limit test.now) (sealed table.now) result }
 {
-    let mut walk = Search::new();
     if table.tasks().is_empty() {
-        let rows = walk.rows;
+        let rows = Bounded::default();
         return Ok(Planned { rows, cost: 0 });
     }
-    let span = table.span();
-    while walk.advance(table, span, test) {}
+    let mut walk = Search::new(table, test);
+    while walk.advance() {}
     walk.best.ok_or(Refusal::NoLawfulPlan)
 }

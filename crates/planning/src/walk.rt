@@ -1,38 +1,26 @@
 ghost use Rattle.std.specs.Prelude.{◌≡◌};
-ghost use Rattle.span.specs.Spans.{span_of};
-ghost use Rattle.tasks.specs.Tasks.{periods};
 ghost use Rattle.tasks.specs.Tables.{sealed};
 ghost use Rattle.planning.specs.Walk.{Starts, Going, Descends, Advances};
 
-use crate::placing::{is_cheaper, is_spare, put};
+use crate::placing::{is_cheaper, is_spare, put, rows_placed};
 use crate::types::{Planned, Search};
 use bounded::Bounded;
-use coretests::{CoreTest, Entry};
-use plans::{Placed, Row};
-use tasks::{MAX_POINTS, Sealed};
+use coretests::CoreTest;
+use plans::Placed;
+use tasks::Sealed;
 
-impl Search {
+impl<'a, C: CoreTest> Search<'a, C> {
     // Before the first beginning: nothing is placed, and the first task is to be tried on core 1.
-    pub fn new() -> Search
-        ensures { Starts result }
+    pub fn new(table: &'a Sealed, test: &'a C) -> Search<'a, C>
+        ensures table { result.table.now ≡ table.now }
+        ensures test { result.test.now ≡ test.now }
+        ensures starts { Starts result }
     {
-        let row = Row {
-            core: 0,
-            cuts: [false; MAX_POINTS],
-        };
-        let entry = Entry {
-            period: 1,
-            deadline: 1,
-            load: 0,
-        };
-        let placed = Placed {
-            core: 0,
-            entry,
-            overhead: 0,
-        };
         Search {
-            rows: Bounded::new(row),
-            placed: Bounded::new(placed),
+            table,
+            test,
+            span: table.span(),
+            placed: Bounded::default(),
             core: 1,
             cost: 0,
             best: None,
@@ -41,56 +29,57 @@ impl Search {
 
     // Tries the next task on the present core. True where it stays there and the next one is to be placed;
     // false where the present beginning has been tried.
-    fn descend<C: CoreTest>(&mut self, table: &Sealed, span: u32, test: &C) -> bool
-        requires span { span ≡ span_of (periods (sealed table.now).tasks) }
-        requires going { Going (C.accepts test.now) (C.limit test.now) (sealed table.now) self.old }
-        ensures { Descends (C.accepts test.now) (C.limit test.now) (sealed table.now) self.old result self.new }
+    fn descend(&mut self) -> bool
+        requires { Going (C.accepts self.old.test.now) (C.limit self.old.test.now) self.old }
+        ensures table { self.new.table ≡ self.old.table }
+        ensures test { self.new.test ≡ self.old.test }
+        ensures moves { Descends (C.accepts self.old.test.now) (C.limit self.old.test.now) self.old result self.new }
     {
-        let tasks = table.tasks();
-        let before = self.placed.as_slice();
-        if is_spare(before, self.core) {
+        if is_spare(&self.placed, self.core) {
             return false;
         }
-        let task = &tasks[before.len()];
-        let weight = (span / task.period) as u64;
-        let Some(found) = put(test, task, weight, before, self.core) else {
+        let tasks = self.table.tasks();
+        // it is there, so that `get` would only add a branch that never runs
+        let task = &tasks[self.placed.len()];
+        let weight = (self.span / task.period) as u64;
+        let Some(next) = put(self.test, task, weight, &self.placed, self.core) else {
             return false;
         };
-        let cost = self.cost + found.placed.overhead;
+        let cost = self.cost + next.overhead;
         if !is_cheaper(cost, &self.best) {
             return false;
         }
-        let mut rows = self.rows;
-        let _ = rows.push(found.row);
-        if rows.len() == tasks.len() {
+        if self.placed.len() + 1 == tasks.len() {
+            let mut whole = self.placed;
+            let _ = whole.push(next);
+            let rows = rows_placed(&whole);
             self.best = Some(Planned { rows, cost });
             return false;
         }
-        self.rows = rows;
-        let _ = self.placed.push(found.placed);
+        let _ = self.placed.push(next);
         self.core = 1;
         self.cost = cost;
         true
     }
 
     // Tries the present beginning, and goes on to the next one: down to the next task, or on to the next core,
-    // of an earlier task where all cores have been tried. False where there is no next one.
-    pub fn advance<C: CoreTest>(&mut self, table: &Sealed, span: u32, test: &C) -> bool
-        requires span { span ≡ span_of (periods (sealed table.now).tasks) }
-        requires going { Going (C.accepts test.now) (C.limit test.now) (sealed table.now) self.old }
-        ensures { Advances (C.accepts test.now) (C.limit test.now) (sealed table.now) self.old result self.new }
+    // of an earlier task where all cores have been tried. False where there is no next one: the walk itself is the value.
+    pub fn advance(&mut self) -> bool
+        requires { Going (C.accepts self.old.test.now) (C.limit self.old.test.now) self.old }
+        ensures table { self.new.table ≡ self.old.table }
+        ensures test { self.new.test ≡ self.old.test }
+        ensures moves { Advances (C.accepts self.old.test.now) (C.limit self.old.test.now) self.old result self.new }
     {
-        if self.descend(table, span, test) {
+        if self.descend() {
             return true;
         }
         self.core += 1;
-        while self.core > table.cores() {
+        while self.core > self.table.cores() {
             let Some(last) = self.placed.pop() else {
                 return false;
             };
-            let _ = self.rows.pop();
             self.cost -= last.overhead;
-            self.core = last.core + 1;
+            self.core = last.row.core + 1;
         }
         true
     }

@@ -6,8 +6,7 @@ use Rattle.plans.specs.declared.types.Row.{Row}
 use Rattle.clearing.specs.declared.cleared.Cleared.{Cleared}
 use Rattle.clearing.specs.Clearing.{table_in, rows_in}
 use Rattle.machine.specs.declared.types.Call.{Call}
-use Rattle.machine.specs.declared.types.Answer.{Answer}
-use Rattle.machine.specs.Machine.{State, reply_of, answers, start}
+use Rattle.machine.specs.Machine.{Answer, State, reply_of, answers, start}
 use Rattle.machine.specs.Law.{NeverLate}
 use Rattle.machine.specs.Assigning.{AssignedAll}
 use Rattle.machine.proofs.Runs.{answers-take}

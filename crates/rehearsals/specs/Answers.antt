@@ -11,7 +11,7 @@ use Rattle.clearing.specs.Clearing.{table_in, rows_in}
 use Rattle.sheet.specs.Sheets.{Granted, SheetRefused}
 use Rattle.writer.specs.Lines.{refusal_line}
 use Rattle.plan_writer.specs.Lines.{plan_text}
-use Rattle.writer.specs.Texts.{Writes}
+use Rattle.writer.specs.Texts.{WritesOnly}
 
 -- why a sheet has no plan: it is refused, or no plan of the table that it describes is lawful under EDF
 abbrev pub Unplanned : List ℕ → Refusal → Type 0
@@ -28,9 +28,6 @@ TextFor bs text =
     ((table : Table) × (rows : List Row) × Granted bs table [] × Choice EdfAccepts edf_limit table rows × (text ≡ plan_text table rows))
     ⊎ ((y : Refusal) × Unplanned bs y × (text ≡ refusal_line y))
 
--- the text is the only one that tells of the sheet, and it is written unless the buffer is too short for it
-pub record Answers (bs out : List ℕ) (r : Result ℕ Refusal) (after : List ℕ) : Type 0 where
-  pub text : List ℕ
-  pub tells : TextFor bs text
-  pub only : (other : List ℕ) → TextFor bs other → other ≡ text
-  pub writes : Writes text out r after
+-- the text that tells of the sheet is written: there is no other
+abbrev pub Answers : List ℕ → List ℕ → Result ℕ Refusal → List ℕ → Type 0
+Answers bs = WritesOnly (TextFor bs)

@@ -11,8 +11,7 @@ use Rattle.planning.specs.declared.types.Planned.{Planned}
 use Rattle.planning.specs.Planning.{rows_of, Plans}
 use Rattle.machine.specs.declared.types.Assigned.{Assigned}
 use Rattle.machine.specs.declared.types.Call.{Call}
-use Rattle.machine.specs.declared.types.Answer.{Answer}
-use Rattle.machine.specs.Machine.{reply_of, answers, start}
+use Rattle.machine.specs.Machine.{Answer, reply_of, answers, start}
 use Rattle.machine.specs.Law.{NeverLate}
 use Rattle.machine.specs.Assigning.{AssignedAll}
 use Rattle.rehearsals.specs.declared.types.Rehearsal.{Rehearsal}

@@ -18,7 +18,7 @@ pub use rehearsal::rehearse;
 use sheet::read_sheet;
 use tasks::{Draft, Refusal, Sealed};
 pub use types::Rehearsal;
-use writer::write_refusal;
+use writer::write;
 
 // Plans the table under a pile over EDF, and clears the plan.
 pub fn plan_and_clear<P: EdfPile>(
@@ -52,6 +52,6 @@ pub fn answer(sheet: &[u8], out: &mut [u8]) -> Result<usize, Refusal>
     let mut cleared = Cleared::new();
     match plan_sheet(sheet, &mut cleared) {
         Ok(()) => write_plan(&cleared, out),
-        Err(refusal) => write_refusal(&refusal, out),
+        Err(refusal) => write(&refusal, out),
     }
 }

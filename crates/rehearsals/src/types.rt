@@ -7,5 +7,6 @@ use tasks::Refusal;
 pub struct Rehearsal {
     pub planned: Result<Planned, Refusal>,
     pub piled: Result<Planned, Refusal>,
+    // 0 without a plan as without a call: in neither case does an answer stand in the log
     pub ran: usize,
 }

@@ -4,17 +4,17 @@
 
 mod watcher;
 
-use anyhow::anyhow;
+use console::read_front;
 use coretests::Edf;
-use machine::{Answer, Call};
+use machine::{Answer, Call, Grant};
 use plans::place_all;
-use rehearsals::{MAX_SHEET, rehearse};
+use rehearsals::rehearse;
 use sheet::read_sheet;
 use std::alloc::{AllocError, Global};
-use std::io::{Read, Write};
+use std::io::Write;
 use tasks::{Draft, Refusal, Sealed};
 use watcher::Watcher;
-use writer::write_refusal;
+use writer::Tell;
 
 // A longer span is not run to its end.
 const MAX_TICKS: u32 = 200;
@@ -25,8 +25,8 @@ fn calls_of(heap: Global, table: &Sealed) -> Result<Vec<Call>, AllocError> {
     let places = table.tasks().len();
     let mut calls = Vec::new(heap);
     for _ in 0..table.span().min(MAX_TICKS) {
-        for i in 0..places {
-            calls.push(Call::Release { place: i + 1 })?;
+        for place in 1..=places {
+            calls.push(Call::Release { place })?;
         }
         calls.push(Call::Tick { width })?;
     }
@@ -41,6 +41,11 @@ fn print_row(rt: &HostRuntime, row: &[usize]) -> anyhow::Result<()> {
     Ok(println!(rt; ")")?)
 }
 
+// The watcher of a place, if there is such a place.
+fn watcher_at(watchers: &mut [Watcher], place: usize) -> Option<&mut Watcher> {
+    watchers.get_mut(place.checked_sub(1)?)
+}
+
 // The rows one by one, as the watchers of the places see them.
 fn print_rows(
     rt: &HostRuntime,
@@ -51,16 +56,16 @@ fn print_rows(
     let mut clock = 0;
     for (call, answer) in calls.iter().zip(log) {
         match (*call, *answer) {
-            (Call::Release { place }, Answer::Granted) => {
-                if let Some(watcher) = watchers.get_mut(place.saturating_sub(1)) {
+            (Call::Release { place }, Ok(Grant::Done)) => {
+                if let Some(watcher) = watcher_at(watchers, place) {
                     watcher.release(clock);
                 }
             }
-            (Call::Tick { .. }, Answer::Row(row)) => {
+            (Call::Tick { .. }, Ok(Grant::Row(row))) => {
                 clock = clock.saturating_add(1);
                 print_row(rt, row.as_slice())?;
                 for place in row.as_slice() {
-                    if let Some(watcher) = watchers.get_mut(place.wrapping_sub(1)) {
+                    if let Some(watcher) = watcher_at(watchers, *place) {
                         watcher.stand(clock);
                     }
                 }
@@ -72,25 +77,23 @@ fn print_rows(
 }
 
 fn print_refusal(rt: &HostRuntime, refusal: &Refusal) -> anyhow::Result<()> {
-    let mut line = [0; 66];
-    match write_refusal(refusal, &mut line) {
-        Ok(len) => Ok(rt.stdout().write_all(&line[0..len])?),
-        Err(_) => Err(anyhow!("the line does not fit its buffer")),
-    }
+    Ok(rt.stdout().write_all(refusal.text().as_slice())?)
 }
 
 fn run(rt: &HostRuntime, table: &Sealed) -> anyhow::Result<()> {
     let calls = calls_of(rt.alloc(), table)?;
-    let mut log = vec![in rt.alloc(); Answer::Granted; calls.len()]?;
+    let mut log = vec![in rt.alloc(); Ok(Grant::Done); calls.len()]?;
     let rehearsal = rehearse(table, &Edf, &Edf, 0, calls.as_slice(), log.as_mut_slice());
     let planned = match rehearsal.piled {
         Ok(planned) => planned,
         Err(refusal) => return print_refusal(rt, &refusal),
     };
-    let mut watchers = Vec::new(rt.alloc());
-    for placed in place_all(table, planned.rows.as_slice()).as_slice() {
-        watchers.push(Watcher::new(placed.entry.load))?;
-    }
+    let placed = place_all(table, planned.rows.as_slice());
+    let mut watchers: Vec<Watcher> = placed
+        .as_slice()
+        .iter()
+        .map(|placed| Watcher::new(placed.entry.load))
+        .collect(rt.alloc())?;
     print_rows(
         rt,
         calls.as_slice(),
@@ -99,15 +102,14 @@ fn run(rt: &HostRuntime, table: &Sealed) -> anyhow::Result<()> {
     )?;
     for (task, watcher) in table.tasks().iter().zip(watchers.as_slice()) {
         let (id, deadline) = (task.id, task.deadline);
-        let (jobs, response) = (watcher.jobs(), watcher.response());
+        let (jobs, response) = (watcher.jobs(), watcher.response().unwrap_or(0));
         println!(rt; "(task (id {id}) (jobs {jobs}) (response {response}) (deadline {deadline}))")?;
     }
     Ok(())
 }
 
 fn main(rt: HostRuntime) -> anyhow::Result<()> {
-    let mut sheet = Vec::new(rt.alloc());
-    rt.stdin().take(MAX_SHEET).read_to_end(&mut sheet)?;
+    let sheet = read_front(rt.alloc(), rt.stdin())?;
     let mut draft = Draft::new();
     match read_sheet(sheet.as_slice(), &mut draft) {
         Ok(()) => run(&rt, &draft.seal()),
