@@ -66,14 +66,11 @@ fn longest_descent(list: &[Entry], d: u64, line: bool) -> (Option<u64>, u64) {
     let mut visited = 1;
     let mut best = first.saturating_sub(demand(list, first));
     let mut t = if line { last_tight(list, m, best, last) } else { last };
-    while t >= first {
+    while best > 0 && t >= first {
         visited += 1;
-        let due = demand(list, t);
-        if due >= t {
-            return (Some(0), visited);
-        }
-        best = best.min(t - due);
-        t = (best + due).saturating_sub(1);
+        let slack = t.saturating_sub(demand(list, t));
+        best = best.min(slack);
+        t = (t - slack + best).saturating_sub(1);
     }
     (Some(best), visited)
 }
