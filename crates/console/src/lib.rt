@@ -54,3 +54,18 @@ pub fn write_named<F: Fn(&[u8], &mut [u8]) -> anyhow::Result<usize>, W: Write>(
     }
     Ok(())
 }
+
+#[cfg(test)]
+mod tests {
+    use crate::read_front;
+    use std::test::Fail;
+
+    #[test]
+    fn reads_as_much_as_a_sheet_may_have(rt: HostRuntime) -> Result<(), Fail> {
+        let long = [b'('; 65_537];
+        assert_eq!(rt; read_front(rt.alloc(), &long[..])?.len(), 65_536);
+        let short = [b'('; 3];
+        assert_eq!(rt; read_front(rt.alloc(), &short[..])?.len(), 3);
+        Ok(())
+    }
+}

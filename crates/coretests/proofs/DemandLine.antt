@@ -1,7 +1,8 @@
 -- A line above the demand, where the work of one span is less than the span. Assumes nothing.
-use Rattle.std.proofs.Common.{◌≡◌, ℕ, ◌+◌, ◌-◌, ◌*◌, ◌/◌, ◌%◌, ◌<◌, ◌≤◌, true, List, [], ◌∷◌, sum_by, sym, ap, ◌∙◌, mul_comm, div-lt_iff_lt-mul, add-mul, mul-le-mul_left, mul-add, arith}
+use Rattle.std.proofs.Common.{◌≡◌, ℕ, ◌+◌, ◌-◌, ◌*◌, ◌/◌, ◌%◌, ◌<◌, ◌≤◌, true, List, [], ◌∷◌, sum_by, sym, ap, ◌∙◌, mul_comm, div-lt_iff_lt-mul, add-mul, mul-le-mul_left, mul-add, div-le_self, arith}
 use native.Mathlib.Nat.{mul-mul-mul_comm, mul-div-le, mod-add-div, lt_of_mul-lt-mul_left}
 use Rattle.std.specs.List.{All}
+use Rattle.std.proofs.lemmas.Nat.{mul-le}
 use Rattle.std.proofs.lemmas.List.Elements.{All-head, All-tail}
 use Rattle.std.proofs.lemmas.List.Sums.{sum_by-cons}
 use Rattle.span.specs.Spans.{span_of}
@@ -17,6 +18,9 @@ share m e = e.load * (m / e.period)
 -- that work, as often as the deadline is before the end of the period
 abbrev pub lead_of : ℕ → Entry → ℕ
 lead_of m e = share m e * (e.period - e.deadline)
+
+pub share_small : (m : ℕ) (e : Entry) → InRange e → m ≤ 1000000 → share m e ≤ 1000000000000000
+share_small m e f h = mul-le e.load (m / e.period) 1000000000 1000000 f.load_high (omega (arith, div-le_self m e.period))
 
 pub lead_small : (m : ℕ) (e : Entry) → InRange e → lead_of m e ≤ share m e * 1000000
 lead_small m e f = let near : e.period - e.deadline ≤ 1000000 = omega arith in mul-le-mul_left (share m e) near

@@ -51,7 +51,7 @@ met_down xs t due m s f e a b later =
     (cases_lt t s)
 
 -- moments with a slack of b or more add nothing to b
-slack_skip : (xs : List Entry) (low r t b : ℕ) → r ≤ t → ((s : ℕ) → r < s → s ≤ t → b ≤ slack xs s)
+pub slack_skip : (xs : List Entry) (low r t b : ℕ) → r ≤ t → ((s : ℕ) → r < s → s ≤ t → b ≤ slack xs s)
     → lesser (Some b) (least (slack xs) low (r + 1 - low)) ≡ lesser (Some b) (least (slack xs) low (t + 1 - low))
 slack_skip xs low r t b h past =
     let n = r + 1 - low in
@@ -60,11 +60,11 @@ slack_skip xs low r t b h past =
     sym (least_skip (slack xs) low n k b (λ s u v. past s (omega arith) (omega arith))) ∙ ap (λ c. lesser (Some b) (least (slack xs) low c)) all
 
 -- a value that is one of those of which the least is sought
-lesser_member : (b : ℕ) (o : Option ℕ) → AtMost o (Some b) → lesser (Some b) o ≡ o
+pub lesser_member : (b : ℕ) (o : Option ℕ) → AtMost o (Some b) → lesser (Some b) o ≡ o
 lesser_member b None h = absurd h
 lesser_member b (Some a) h = ap Some (omega arith)
 
-lesser_joins : (b n : ℕ) (o : Option ℕ) → AtMost o (Some n) → lesser (Some (min b n)) o ≡ lesser (Some b) o
+pub lesser_joins : (b n : ℕ) (o : Option ℕ) → AtMost o (Some n) → lesser (Some (min b n)) o ≡ lesser (Some b) o
 lesser_joins b n None h = absurd h
 lesser_joins b n (Some a) h = ap Some (omega arith)
 
@@ -77,11 +77,11 @@ slack_turn xs low t best room b r ok l is less down =
     ∙ ap (λ n. lesser (Some n) (least (slack xs) low (t + 1 - low))) less
     ∙ lesser_joins best room (least (slack xs) low (t + 1 - low)) here
 
-least_slack_is : (xs : List Entry) (d : ℕ) → 0 < length xs → least_slack xs d ≡ least (slack xs) (get_or xs 0 blank).deadline (d - (get_or xs 0 blank).deadline)
+pub least_slack_is : (xs : List Entry) (d : ℕ) → 0 < length xs → least_slack xs d ≡ least (slack xs) (get_or xs 0 blank).deadline (d - (get_or xs 0 blank).deadline)
 least_slack_is [] d h = absurd (omega arith)
 least_slack_is (x ∷ xs) d h = refl
 
-least_slack-none : (xs : List Entry) (d : ℕ) → length xs ≤ 0 → least_slack xs d ≡ None
+pub least_slack-none : (xs : List Entry) (d : ℕ) → length xs ≤ 0 → least_slack xs d ≡ None
 least_slack-none [] d h = refl
 least_slack-none (x ∷ xs) d h = absurd (omega arith)
 

@@ -22,7 +22,15 @@ pub(crate) struct SoundList<'a> {
 fn is_ordered(list: &[Entry]) -> bool
     ensures { result ≡ ordered_from 0 list.now }
 {
-    list.iter().all(|e| e.in_range()) && list.is_sorted_by_key(|e| e.deadline)
+    // one loop: `all` and then `is_sorted_by_key` goes over a list twice, and past a deadline that falls
+    let mut last = 0;
+    for e in list {
+        if !e.in_range() || e.deadline < last {
+            return false;
+        }
+        last = e.deadline;
+    }
+    true
 }
 
 impl<'a> SoundList<'a> {

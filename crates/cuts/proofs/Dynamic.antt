@@ -64,7 +64,7 @@ module _ (limit : Option ℕ) (t : Task) (r : Ranges t.blocks t.points) where
   best_end : (n e : ℕ) → length t.points ≤ e → best_at limit t n e ≡ cond (within limit n) (Some uncut) None
   best_end n e h = at_drop_all (λ bs. best_from limit n e bs (drop e t.points)) t.blocks (e + 1) (omega (arith, r.fewer))
 
-  scan_more : (n e : ℕ) (v : Bool) (found next : Option Cuts) → e < length t.points → v ≡ within limit n → next ≡ cond v (cheaper_of found (best_cut_at limit t e)) found
+  pub scan_more : (n e : ℕ) (v : Bool) (found next : Option Cuts) → e < length t.points → v ≡ within limit n → next ≡ cond v (cheaper_of found (best_cut_at limit t e)) found
       → cheaper_of next (best_at limit t (n + get_or t.blocks (e + 1) 0) (e + 1)) ≡ cheaper_of found (best_at limit t n e)
   scan_more n e v found next h is x =
       let rest = best_at limit t (n + get_or t.blocks (e + 1) 0) (e + 1) in

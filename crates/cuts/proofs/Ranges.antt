@@ -1,5 +1,5 @@
 -- The ranges of a task as facts, and how much its blocks and its cuts can add up to. Assumes nothing.
-use Rattle.std.proofs.Common.{◌≡◌, ℕ, ◌+◌, ◌-◌, ◌*◌, ◌<◌, ◌≤◌, Bool, true, false, leb, List, [], ◌∷◌, length, get_or, sum, refl, arith}
+use Rattle.std.proofs.Common.{◌≡◌, ℕ, ◌+◌, ◌-◌, ◌*◌, ◌<◌, ◌≤◌, Bool, true, false, leb, List, [], ◌∷◌, length, get_or, sum, sym, refl, subst, arith}
 use Rattle.std.specs.List.{AllByRecursion}
 use Rattle.std.proofs.ByRecursion.{All-get_or}
 use Rattle.std.proofs.lemmas.List.Recursion.{is_sum_by}
@@ -37,6 +37,10 @@ ranges t h = record {
   lengths = every_high 1 1000000 t.blocks (grind (arith, nat_tests));
   costs = every_high 0 1000000 t.points (grind (arith, nat_tests));
 }
+
+-- of lists that are those of the task
+pub ranges_at : (t : Task) (bs ps : List ℕ) → bs ≡ t.blocks → ps ≡ t.points → in_range t ≡ true → Ranges bs ps
+ranges_at t bs ps d e h = subst (λ (xs : List ℕ). Ranges xs ps) (sym d) (subst (λ (xs : List ℕ). Ranges t.blocks xs) (sym e) (ranges t h))
 
 pub first_block : {bs ps : List ℕ} → Ranges bs ps → get_or bs 0 0 ≤ 1000000
 first_block {bs} {ps} r = All-get_or (λ n. n ≤ 1000000) bs 0 0 r.some r.lengths

@@ -5,7 +5,6 @@ ghost use Rattle.tasks.specs.Cuts.{cut_cost, regions, total};
 ghost use Rattle.tasks.specs.Stored.{task_of};
 ghost use Rattle.cuts.specs.Allowed.{cut_beyond, within};
 
-use crate::regions::Regions;
 use tasks::{MAX_POINTS, Task};
 
 // Whether a region of `length` ticks is no longer than the limit.
@@ -20,12 +19,15 @@ pub fn cut_cost(task: &Task, cuts: &[bool; MAX_POINTS]) -> u32
     ensures value { result ≡ cut_cost (task_of task.now) cuts.now }
     ensures bound { result ≤ 15000000 }
 {
+    // by index: a `zip` with `filter_map` and `sum` took twice the time
     let points = task.points.as_slice();
-    points
-        .iter()
-        .zip(cuts)
-        .filter_map(|(point, cut)| cut.then_some(*point))
-        .sum()
+    let mut cost = 0;
+    for j in 0..points.len() {
+        if cuts[j] {
+            cost += points[j];
+        }
+    }
+    cost
 }
 
 // What the blocks run in all.
@@ -36,16 +38,30 @@ pub fn total_blocks(task: &Task) -> u32
     task.blocks.as_slice().iter().sum()
 }
 
-// Whether a cut is set after the last point of the task.
-pub fn has_cut_beyond(task: &Task, cuts: &[bool; MAX_POINTS]) -> bool
-    ensures { result ≡ cut_beyond (task_of task.now).points cuts.now }
+// Whether a cut is set after the last of these points: those of any task, in range or not.
+pub fn has_cut_beyond(points: &[u32], cuts: &[bool; MAX_POINTS]) -> bool
+    ensures { result ≡ cut_beyond points.now cuts.now }
 {
-    cuts.iter().skip(task.points.len()).any(|cut| *cut)
+    cuts.iter().skip(points.len()).any(|cut| *cut)
 }
 
 // Whether no region is longer than the limit.
 pub fn regions_within(task: &Task, cuts: &[bool; MAX_POINTS], limit: Option<u32>) -> bool
     ensures { result ≡ every (within limit) (regions (task_of task.now) cuts.now) }
 {
-    Regions::new(task, cuts).all(|length| is_within(limit, length))
+    // by index: `all` over `Regions` took up to five times the time
+    let blocks = task.blocks.as_slice();
+    let points = task.points.as_slice();
+    let mut length = blocks[0];
+    for j in 0..points.len() {
+        if cuts[j] {
+            if !is_within(limit, length) {
+                return false;
+            }
+            length = points[j] + blocks[j + 1];
+        } else {
+            length += blocks[j + 1];
+        }
+    }
+    is_within(limit, length)
 }

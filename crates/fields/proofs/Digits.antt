@@ -1,5 +1,5 @@
 -- The digits of a number, and their value. Assumes nothing.
-use Rattle.std.proofs.Common.{◌≡◌, ℕ, ◌^◌, ◌<◌, List, [], ◌∷◌, None, refl, arith, rules}
+use Rattle.std.proofs.Common.{◌≡◌, ℕ, zero, suc, ◌+◌, ◌-◌, ◌*◌, ◌^◌, ◌<◌, ◌≤◌, List, [], ◌∷◌, None, sym, refl, ap, ◌∙◌, subst, pow-suc, add-one, arith, rules}
 use Rattle.std.specs.List.{All}
 use Rattle.std.specs.Str.{IsUtf8}
 use Rattle.std.proofs.lemmas.List.Elements.{All-nil, All-cons, All-head, All-tail, All-weaker}
@@ -27,3 +27,19 @@ plain ds r = IsUtf8-from_ascii ds (IsAscii-from_all ds (All-weaker IsDigit (λ c
 
 pub small : (ds : List ℕ) → Run IsDigit ds → None ≡ number_refusal ds 0 → value ds < 2 ^ 32
 small ds r e = omega (arith, digits_value_short numerals ds 7 r.1 (number_fits ds 0 e).0)
+
+-- seven digits fit
+
+pub ten_more : (n : ℕ) → 10 ^ (n + 1) ≡ 10 ^ n * 10
+ten_more n = ap (λ m. 10 ^ m) (add-one n) ∙ pow-suc 10 n
+
+tens : (n : ℕ) → 0 < 10 ^ n
+tens zero = omega arith
+tens (suc n) = omega (arith, tens n, pow-suc 10 n)
+
+pub ten_room : (n : ℕ) → n < 7 → 10 ^ n ≤ 1000000
+ten_room n h = up n (6 - n) (omega arith)
+  where
+    up : (n k : ℕ) → n + k ≡ 6 → 10 ^ n ≤ 1000000
+    up n zero e = let z : n ≡ 6 = omega arith in subst (λ m. 10 ^ m ≤ 1000000) (sym z) (omega arith)
+    up n (suc k) e = let h = up (n + 1) k (omega arith) in omega (arith, ten_more n, tens n)

@@ -33,6 +33,9 @@ lawful_numerals (d ∷ ns) n l = All-cons IsNumber d ns l.0 (lawful_numerals ns 
 pub sheet_lawful : (ds : List ℕ) → IsNumber ds → Lawful (sheet_form ds) 4
 sheet_lawful ds n = (is_word (codes "sheet") (omega arith) (omega arith) refl, ((is_word (codes "cores") (omega arith) (omega arith) refl, (n, tt)), tt))
 
+pub lawful_sheet : (ds : List ℕ) → Lawful (sheet_form ds) 4 → IsNumber ds
+lawful_sheet ds l = l.1.0.1.0
+
 pub task_lawful : (w : Written) → IsTask w → Lawful (task_form w) 4
 task_lawful w l = (
   is_word (codes "task") (omega arith) (omega arith) refl,
@@ -91,6 +94,9 @@ same_line f g p q e = (line_same f g (lawful_spelt f 4 p) (lawful_spelt g 4 q) [
 module _ (f : Form) (bs : List ℕ) (lawful : Lawful f 4) (is : bs ≡ line f) where
   pub cores_some : (v : ℕ) → CoresOf bs (Some v) → (ds : List ℕ) × IsNumber ds × (v ≡ value ds) × (f ≡ sheet_form ds)
   cores_some v k = (k.0, k.1, k.2, same_line f (sheet_form k.0) lawful (sheet_lawful k.0 k.1) (sym is ∙ k.3))
+
+  pub cores-none : CoresOf bs None → (ds : List ℕ) → f ≡ sheet_form ds → ⊥
+  cores-none never ds e = never ds (lawful_sheet ds (subst (λ g. Lawful g 4) e lawful)) (is ∙ ap line e)
 
   pub task_some : (v : TaskLine) → TaskOf bs (Some v) → (w : Written) × IsTask w × HasTask w v × (f ≡ task_form w)
   task_some v k = (k.0, k.1, k.2, same_line f (task_form k.0) lawful (task_lawful k.0 k.1) (sym is ∙ k.3))

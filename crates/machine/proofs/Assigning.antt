@@ -23,6 +23,9 @@ fits_level limit table before (t ∷ ts) [] f = absurd f
 fits_level limit table before (t ∷ ts) (r ∷ rs) f = let more = fits_level limit table (before ++ place table t r ∷ []) ts rs f.1 in omega arith
 
 module _ (all : List Task) (rows : List Row) where
+  pub assigns_start : length all ≡ length rows → Assigns all rows [] all rows
+  assigns_start h = record { rest = λ others a. a; level = h; room = omega arith }
+
   pub assigns_more : (done : List Assigned) (t : Task) (ts : List Task) (r : Row) (rs : List Row) (a : Assigned) → IsAssigned t r a → Assigns all rows done (t ∷ ts) (r ∷ rs) → Assigns all rows (done ++ a ∷ []) ts rs
   assigns_more done t ts r rs a is s = record {
     rest = λ others h. subst (AssignedAll all rows) (sym (append_assoc done (a ∷ []) others)) (s.rest (a ∷ others) (is, h));

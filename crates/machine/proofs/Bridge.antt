@@ -1,10 +1,12 @@
 -- The machine in words of code: records by index, rows, and the place that a core chooses. Assumes nothing.
-use Rattle.std.proofs.Common.{◌≡◌, ℕ, zero, suc, ◌+◌, ◌-◌, ◌<◌, ◌≤◌, min, Bool, true, false, cond, ◌&&◌, eqb, List, [], ◌∷◌, ◌++◌, length, get_or, set, Some, None, Option, MatchOption, sym, refl, ap, ◌∙◌, subst, inl, inr, add-one, arith}
+use Rattle.std.proofs.Common.{◌≡◌, ℕ, zero, suc, ◌+◌, ◌-◌, ◌<◌, ◌≤◌, min, Bool, true, false, cond, not, ◌&&◌, eqb, List, [], ◌∷◌, ◌++◌, length, get_or, set, Some, None, Option, MatchOption, sym, refl, ap, ◌∙◌, subst, inl, inr, add-one, arith}
 use Rattle.std.proofs.lemmas.List.FromFn.{map-range_with_len_more, length-map-range_with_len}
 use Rattle.std.specs.List.{position, position_from}
 use Rattle.std.proofs.lemmas.Iterator.Adapters.{position_from-zero}
-use Rattle.std.proofs.lemmas.Option.{get_or_from_slice_get}
+use Rattle.std.proofs.lemmas.Option.{get_or_from_slice_get, slice_get-get_or, slice_get_past}
 use Rattle.std.proofs.lemmas.Bool.{cond-true, cond-false, eq-eqb, ne_eqb, and_left, and_right, and_from, cases_Bool}
+use Rattle.tasks.specs.Refusals.{first_of}
+use Rattle.tasks.specs.declared.refusal.Refusal.TheVariants.{NoSuchPlace, EarlyRelease, UnfinishedJob}
 use Rattle.machine.specs.declared.types.Slot.{Slot}
 use Rattle.machine.specs.declared.types.Event.TheVariants as events
 use Rattle.machine.specs.declared.types.Call.TheVariants.{Release}
@@ -99,6 +101,34 @@ row_more (suc c) ss xs v h inv r =
 
 pub length-row_of : (c : ℕ) (ss : List Slot) → length (row_of c ss) ≡ c
 length-row_of c ss = length-map-range_with_len (λ k. place_on k 1 ss) 1 c
+
+-- the record of a place
+pub slot_past : (place : ℕ) (ss : List Slot) → length ss ≤ place - 1 → slot_at place ss ≡ None
+slot_past zero ss h = refl
+slot_past (suc i) ss h = slice_get_past ss i (omega arith)
+
+pub slot_here : (place : ℕ) (ss : List Slot) (x : Slot) → 1 ≤ place → place - 1 < length ss → ((d : Slot) → x ≡ get_or ss (place - 1) d) → slot_at place ss ≡ Some x
+slot_here zero ss x l h e = absurd (omega arith)
+slot_here (suc i) ss x l h e =
+    let q : suc i - 1 ≡ i = omega arith in
+    slice_get-get_or ss i x (omega arith) ∙ ap Some (ap (λ n. get_or ss n x) (sym q) ∙ sym (e x))
+
+-- why a release is refused, or that it is not
+module _ (now place : ℕ) (o : Option Slot) (x : Slot) (e : o ≡ Some x) where
+  refusal_is : (a b : Bool) → period_passed now x.task x.last ≡ a → is_idle x.job ≡ b → release_refusal now place o ≡ first_of ((not a, EarlyRelease place) ∷ (not b, UnfinishedJob place) ∷ [])
+  refusal_is a b p q = ap (release_refusal now place) e ∙ ap (λ t. first_of ((not t, EarlyRelease place) ∷ (not (is_idle x.job), UnfinishedJob place) ∷ [])) p ∙ ap (λ t. first_of ((not a, EarlyRelease place) ∷ (not t, UnfinishedJob place) ∷ [])) q
+
+  pub release_early : false ≡ period_passed now x.task x.last → release_refusal now place o ≡ Some (EarlyRelease place)
+  release_early p = refusal_is false (is_idle x.job) (sym p) refl
+
+  pub release_unfinished : true ≡ period_passed now x.task x.last → false ≡ is_idle x.job → release_refusal now place o ≡ Some (UnfinishedJob place)
+  release_unfinished p q = refusal_is true false (sym p) (sym q)
+
+  pub release_allowed : true ≡ period_passed now x.task x.last → true ≡ is_idle x.job → release_refusal now place o ≡ None
+  release_allowed p q = refusal_is true true (sym p) (sym q)
+
+pub release_nowhere : (now place : ℕ) (o : Option Slot) → o ≡ None → release_refusal now place o ≡ Some (NoSuchPlace place)
+release_nowhere now place o e = ap (release_refusal now place) e
 
 -- a release that nothing refuses, by index
 pub release_step : (st : State) (place : ℕ) (x y : Slot) → Some x ≡ slot_at place st.slots → true ≡ period_passed st.clock x.task x.last → true ≡ is_idle x.job → y ≡ released st.clock x

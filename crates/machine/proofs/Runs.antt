@@ -1,5 +1,5 @@
 -- Calls one after another: what each state keeps, and how states and replies of longer lists go on. Assumes nothing.
-use Rattle.std.proofs.Common.{◌≡◌, ℕ, zero, suc, ◌+◌, ◌<◌, not, eqb, leb, List, [], ◌∷◌, ◌++◌, length, get_or, take, Some, None, Option, sym, refl, ap, ◌∙◌, subst}
+use Rattle.std.proofs.Common.{◌≡◌, ℕ, zero, suc, ◌+◌, ◌<◌, ◌≤◌, not, eqb, leb, List, [], ◌∷◌, ◌++◌, length, get_or, take, Some, None, Option, sym, refl, ap, ◌∙◌, subst, arith}
 use native.Mathlib.Bridge.{le_prop}
 use Rattle.std.proofs.lemmas.List.FromFn.{length-map-range_with_len}
 use Rattle.std.proofs.lemmas.List.{take_more}
@@ -37,6 +37,16 @@ pub tick_open : (st : State) (width : ℕ) → tick_refusal st width ≡ None �
 tick_open st width e =
     let h = unrefused (leb clock_end st.clock) (not (eqb width st.cores)) ClockEnded WrongRowLength e in
     (leb-false clock_end st.clock h.0, eqb-true width st.cores (not-false (eqb width st.cores) h.1))
+
+-- no call takes the clock past its end
+pub step_clock : (st : State) (c : Call) → st.clock ≤ clock_end → (step st c).0.clock ≤ clock_end
+step_clock st (Release p) h = settled (λ x. x.clock ≤ clock_end) st (release_refusal st.clock p (slot_at p st.slots)) (released_state st p) granted h h
+step_clock st (Early c) h = settled (λ x. x.clock ≤ clock_end) st (early_refusal st c) (ended_state st c) granted h h
+step_clock st (Tick width) h = go (tick_refusal st width) refl
+  where
+    go : (o : Option Refusal) → tick_refusal st width ≡ o → (settle st o (ticked_state st) (ran (tick_row st))).0.clock ≤ clock_end
+    go None e = omega (arith, (tick_open st width e).0)
+    go (Some refusal) e = h
 
 -- a row that is granted is as long as the one that was lent
 pub row_long : (st : State) (width : ℕ) (row : List ℕ) → ran row ≡ (step st (Tick width)).1 → length row ≡ width

@@ -1,5 +1,5 @@
 ghost use Rattle.std.proofs.Common.{rules};
-ghost use Rattle.std.specs.Prelude.{◌≡◌};
+ghost use Rattle.std.specs.Prelude.{◌≡◌, ◌+◌, ◌≤◌, ◌++◌, length};
 ghost use Rattle.tasks.specs.Stored.{task_of};
 ghost use Rattle.tasks.specs.Tables.{sealed};
 ghost use Rattle.cuts.specs.Allowed.{flags_at};
@@ -12,10 +12,7 @@ use plans::{Row, cost_of};
 use tasks::{Refusal, Sealed, Task};
 use writer::{Tell, Text, write};
 
-// At most 15 cuts, each a space and a number of at most 20 digits.
-const MAX_CUTS: usize = 315;
-
-// The line of a task has 19 bytes, two numbers and the cuts.
+// The line of a task has 19 bytes, two numbers and at most 15 cuts, each a space and a number of at most 20 digits.
 const MAX_ROW: usize = 374;
 
 // The first line has 32 bytes and three numbers.
@@ -24,19 +21,19 @@ const MAX_HEAD: usize = 92;
 // No plan is longer: its first line, and the lines of 24 tasks.
 pub const MAX_TEXT: usize = 9_216;
 
-// The numbers of the cuts.
+// Appends the numbers of the cuts. A text of their own would be filled and copied for each row.
 #[tactic(auto, using(crate::proofs::PlanTexts::flags_front))]
-fn cuts_text(task: &Task, row: &Row) -> Text<MAX_CUTS>
-    ensures { text_of result ≡ cut_numbers 1 (flags_at (task_of task.now).points row.now.cuts) }
+fn add_cuts(text: &mut Text<MAX_ROW>, task: &Task, row: &Row)
+    requires { length (text_of text.old) ≤ 59 }
+    ensures text { text_of text.new ≡ text_of text.old ++ cut_numbers 1 (flags_at (task_of task.now).points row.now.cuts) }
+    ensures len { length (text_of text.new) ≤ length (text_of text.old) + 315 }
 {
-    let mut text = Text::new();
     for (point, cut) in (1..).zip(&row.cuts[..task.points.len()]) {
         if *cut {
             text.word(b" ");
             text.number(point);
         }
     }
-    text
 }
 
 // The line of a task.
@@ -49,7 +46,7 @@ fn row_text(task: &Task, row: &Row) -> Text<MAX_ROW>
     text.word(b" (id ");
     text.number(u64::from(task.id));
     text.word(b") (cuts");
-    text.word(cuts_text(task, row).as_slice());
+    add_cuts(&mut text, task, row);
     text.word(b"))\n");
     text
 }

@@ -62,7 +62,7 @@ module _ {accepts : List Entry → Type 0} {limit : List Entry → ℕ → Optio
 
     module _ (p : Placed) (well : PutWell accepts limit (weight table t) ps t s.core (Some p)) where
       pub sum_fits : s.cost + p.overhead ≤ 360000000000000
-      sum_fits = omega (arith, price_more laws table rs ps s.core s.cost s.best over t here going.within p well, plan_cost_small table rules (rs ++ p.row ∷ []))
+      sum_fits = omega (arith, price_more laws table rs ps s.core s.cost s.best over t here going.within p well, (plan_cost_small table rules (rs ++ p.row ∷ [])).1)
 
       pub dear_tried : beats (s.cost + p.overhead) s.best ≡ false → Over accepts limit table rs ps (s.core + 1) s.cost s.best
       dear_tried dear = move_dear laws table rs ps s.core s.cost s.best over t here going.within p well dear

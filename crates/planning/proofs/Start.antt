@@ -1,8 +1,12 @@
--- The search before its first step. Assumes nothing but the laws of the test.
-use Rattle.std.proofs.Common.{ℕ, ◌<◌, ◌≤◌, List, [], ◌∷◌, map, length, Option, sym, refl, ap, subst, arith}
+-- The search before its first step, and a table of no task. Assumes nothing but the laws of the test.
+use Rattle.std.proofs.Common.{◌≡◌, ℕ, ◌<◌, ◌≤◌, List, [], ◌∷◌, map, length, Option, sym, refl, ap, subst, inr, arith}
 use Rattle.std.specs.Option.{option_map}
+use Rattle.tasks.specs.Tasks.{Task, Table}
 use Rattle.coretests.specs.declared.entry.Entry.{Entry}
+use Rattle.cuts.specs.Orders.{NoLater}
+use Rattle.plans.specs.declared.types.Row.{Row}
 use Rattle.plans.specs.declared.types.Placed.{Placed}
+use Rattle.plans.specs.Plans.{Fits, rank_of, Choice}
 use Rattle.optimality.specs.Tests.{Laws}
 use Rattle.optimality.specs.Beginnings.{Leads}
 use Rattle.optimality.proofs.Steps.{leads_start}
@@ -28,3 +32,14 @@ going_start {accepts} {limit} laws s start some tasks =
       stands = subst (λ (a : List Placed). Over accepts limit table (map (λ p. p.row) a) a s.core s.cost s.best) (sym start.placed) over;
       within = omega (arith, start.core);
     }
+
+-- the empty plan is the choice of an empty table
+pub empty_choice : (accepts : List Entry → Type 0) (limit : List Entry → ℕ → Option ℕ) (table : Table) (rows : List Row) → table.tasks ≡ [] → rows ≡ [] → Choice accepts limit table rows
+empty_choice accepts limit table rows none is = subst (Choice accepts limit table) (sym is) (record {
+  lawful = record { fits = subst (λ (ts : List Task). Fits limit table [] ts []) (sym none) tt; held = λ c h. absurd (h refl) };
+  least = λ others law. subst (λ (ts : List Task). Fits limit table [] ts others → NoLater (rank_of table ts []) (rank_of table ts others)) (sym none) (go others) law.fits;
+})
+  where
+    go : (others : List Row) → Fits limit table [] [] others → NoLater (rank_of table [] []) (rank_of table [] others)
+    go [] f = inr (refl, tt)
+    go (r ∷ rs) f = absurd f

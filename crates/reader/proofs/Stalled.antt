@@ -20,6 +20,9 @@ use Rattle.reader.specs.declared.reader.Token.TheVariants as tokens
 
 -- ways on a sheet
 
+pub went_none : (a : Reader) → Went a a []
+went_none a = record { same = refl; to = omega arith; bytes = refl }
+
 pub went_then : {a b e : Reader} {xs ys : List ℕ} → Went a b xs → Went b e ys → Went a e (xs ++ ys)
 went_then {a} {b} {e} {xs} {ys} p q =
     record {

@@ -2,6 +2,8 @@
 use Rattle.std.proofs.Common.{◌≡◌, ℕ, ◌*◌, ◌/◌, ◌%◌, ◌<◌, ◌≤◌, List, [], ◌∷◌, ◌++◌, sym, refl, ap, ◌∙◌, subst, mul_comm, mul-pos, mul_right_comm, arith}
 use Prim.Native.Nat.{◌∣◌}
 use native.Mathlib.Nat.{div-mul_cancel, dvd_refl, dvd_trans, one-dvd, dvd-mul_left, dvd-mul_right, dvd_of_mod-eq-zero, mod-eq-zero_of_dvd, dvd_of_mul-dvd-mul_right, mul-dvd-mul_left, mul-dvd-mul_right, pos_of_dvd_of_pos, le_of_dvd}
+use Rattle.std.specs.List.{Contains}
+use Rattle.std.proofs.lemmas.List.Elements.{All-from_recursion, All-contains}
 use Rattle.span.specs.Spans.{gcd_of, lcm_of, span_from, span_of, Positive, CommonMultiple, LeastCommonMultiple}
 use Rattle.span.proofs.Divisors.{gcd_is, gcd_scale}
 
@@ -34,6 +36,17 @@ module _ (a b : ℕ) (some : 0 < b) where
   pub lcm_some : 0 < a → 0 < lcm_of a b
   lcm_some h = pos_of_dvd_of_pos {n = a * b} (subst (λ n. lcm_of a b ∣ n) lcm_gcd (dvd-mul_right (lcm_of a b) (gcd_of a b))) (mul-pos h some)
 
+  -- the least common multiple is a multiple of both
+  pub lcm_first : lcm_of a b % a ≡ 0
+  lcm_first = mod-eq-zero_of_dvd a lcm_left
+
+  pub lcm_second : lcm_of a b % b ≡ 0
+  lcm_second = mod-eq-zero_of_dvd b lcm_right
+
+  -- every common multiple is a multiple of the least
+  pub lcm_divides : (n : ℕ) → n % a ≡ 0 → n % b ≡ 0 → n % lcm_of a b ≡ 0
+  lcm_divides n h k = mod-eq-zero_of_dvd (lcm_of a b) (lcm_least n (dvd_of_mod-eq-zero a h) (dvd_of_mod-eq-zero b k))
+
 -- the laws by which a span is computed
 pub span_from_nil : (m : ℕ) → span_from m [] ≡ m
 unfolding span_from
@@ -51,6 +64,10 @@ span_from-append m (p ∷ ps) qs = span_from-append (lcm_of m p) ps qs
 pub span_is : (ps : List ℕ) → span_of ps ≡ span_from 1 ps
 unfolding span_of
 span_is ps = refl
+
+pub span_nil : span_of [] ≡ 1
+unfolding span_of span_from
+span_nil = refl
 
 -- the span that begins at m is above 0, a multiple of m and of each period
 span_from_some : (m : ℕ) (ps : List ℕ) → 0 < m → Positive ps → 0 < span_from m ps
@@ -97,6 +114,13 @@ module _ (ps : List ℕ) (all : Positive ps) where
 
   pub span_least : LeastCommonMultiple ps (span_of ps)
   span_least = record { some = span_some; common = span_common; least = λ n h k. le_of_dvd h (dvd_of_mod-eq-zero (span_of ps) (span_divides n k)) }
+
+  pub span_member : (p : ℕ) → Contains ps p → span_of ps % p ≡ 0
+  span_member p h = All-contains (λ q. span_of ps % q ≡ 0) ps p (All-from_recursion (λ q. span_of ps % q ≡ 0) ps span_common) h
+
+-- two numbers that are least common multiples of one list are equal
+pub least_same : (ps : List ℕ) (m n : ℕ) → LeastCommonMultiple ps m → LeastCommonMultiple ps n → m ≡ n
+least_same ps m n a b = omega (arith, a.least n b.some b.common, b.least m a.some a.common)
 
 positive_front : (ps qs : List ℕ) → Positive (ps ++ qs) → Positive ps
 positive_front [] qs all = tt

@@ -1,5 +1,5 @@
 -- What one more task leaves of the order, the ids and the ranges. Assumes nothing.
-use Rattle.std.proofs.Common.{◌≡◌, ℕ, suc, ◌+◌, Bool, true, false, cond, not, ◌||◌, eqb, leb, List, [], ◌∷◌, length, sym, refl, ap, ◌∙◌, arith}
+use Rattle.std.proofs.Common.{◌≡◌, ℕ, suc, ◌+◌, ◌≤◌, Bool, true, false, cond, not, ◌||◌, eqb, leb, List, [], ◌∷◌, length, sym, refl, ap, ◌∙◌, arith}
 use Rattle.std.specs.List.{insert as inserted_at, list_any, prefix_len}
 use Rattle.std.proofs.lemmas.Bool.{and_parts, and_from}
 use Rattle.std.proofs.lemmas.Bool.Decides.{nat_tests}
@@ -10,6 +10,12 @@ use Rattle.tasks.specs.Stored.{task_of, tasks_of}
 -- how many tasks stand at the front whose deadline is not later than d
 abbrev pub not_later : ℕ → List Stored → ℕ
 not_later d ts = prefix_len (λ t. leb t.deadline d) ts
+
+pub place_le : (d : ℕ) (ts : List Stored) → not_later d ts ≤ length ts
+place_le d [] = omega arith
+place_le d (t ∷ ts) =
+    let more = place_le d ts in
+    elim (leb t.deadline d) as (λ b. cond b (1 + not_later d ts) 0 ≤ length (t ∷ ts)) [ true ↦ omega arith | false ↦ omega arith ]
 
 pub has_stored : (n : ℕ) (ts : List Stored) → list_any (λ t. eqb t.id n) ts ≡ has_id n (tasks_of ts)
 has_stored n [] = refl

@@ -1,11 +1,14 @@
 -- The rules of a table as facts, and that a new table and a granted task keep them. Assumes nothing.
-use Rattle.std.proofs.Common.{◌≡◌, ℕ, ◌<◌, ◌≤◌, true, false, leb, List, [], ◌∷◌, map, length, refl, ap, arith, le-leb, leb-true}
+use Rattle.std.proofs.Common.{◌≡◌, ℕ, ◌<◌, ◌≤◌, true, false, cond, not, ltb, leb, List, [], ◌∷◌, map, length, Some, None, Option, refl, ap, ◌∙◌, arith, le-leb, leb-true}
 use Rattle.std.proofs.lemmas.Bool.{and_parts, and_from}
 use Rattle.std.proofs.lemmas.Bool.Decides.{nat_tests}
 use Rattle.span.specs.Spans.{span_of, span_from, Positive}
 use Rattle.tasks.specs.Tasks.{Task, Table, between, every, in_range, has_id, distinct, ordered, periods, inserted, with_task, empty_on, table_rules}
 use Rattle.tasks.specs.declared.task.Task.{Task as Stored}
 use Rattle.tasks.specs.Stored.{tasks_of}
+use Rattle.tasks.specs.Tables.{add_refusal}
+use Rattle.tasks.specs.declared.refusal.Refusal.{Refusal}
+use Rattle.tasks.specs.declared.refusal.Refusal.TheVariants.{OutOfRange, IdTaken, TableFull, LongSpan}
 use Rattle.tasks.proofs.Order.{length_inserted, every_inserted, ordered-inserted, distinct-inserted}
 
 -- the rules of a table, one by one
@@ -51,6 +54,23 @@ table_positive table h = positive table.tasks (rules_are table h).ranges
 pub stored_periods : (ts : List Stored) → map (λ (t : Stored). t.period) ts ≡ periods (tasks_of ts)
 stored_periods [] = refl
 stored_periods (t ∷ ts) = ap (λ l. t.period ∷ l) (stored_periods ts)
+
+module _ (table : Table) (x : Task) where
+  -- what is left to refuse a task for, once the rest is ruled out
+  pub refusal_left : (at : ℕ) → in_range x ≡ true → has_id x.id table.tasks ≡ false → length table.tasks < 24 → add_refusal at table x ≡ cond (ltb 1000000 (span_of (periods (inserted x table.tasks)))) (Some (LongSpan at)) None
+  refusal_left at a b c =
+      let long : Option Refusal = cond (ltb 1000000 (span_of (periods (inserted x table.tasks)))) (Some (LongSpan at)) None in
+      let full : leb 24 (length table.tasks) ≡ false = grind (arith, nat_tests) in
+      ap (λ v. cond (not v) (Some (OutOfRange at)) (cond (has_id x.id table.tasks) (Some (IdTaken at)) (cond (leb 24 (length table.tasks)) (Some (TableFull at)) long))) a
+      ∙ ap (λ v. cond v (Some (IdTaken at)) (cond (leb 24 (length table.tasks)) (Some (TableFull at)) long)) b
+      ∙ ap (λ v. cond v (Some (TableFull at)) long) full
+
+  pub refusal_full : (at : ℕ) → in_range x ≡ true → has_id x.id table.tasks ≡ false → 24 ≤ length table.tasks → add_refusal at table x ≡ Some (TableFull at)
+  refusal_full at a b c =
+      let long : Option Refusal = cond (ltb 1000000 (span_of (periods (inserted x table.tasks)))) (Some (LongSpan at)) None in
+      ap (λ v. cond (not v) (Some (OutOfRange at)) (cond (has_id x.id table.tasks) (Some (IdTaken at)) (cond (leb 24 (length table.tasks)) (Some (TableFull at)) long))) a
+      ∙ ap (λ v. cond v (Some (IdTaken at)) (cond (leb 24 (length table.tasks)) (Some (TableFull at)) long)) b
+      ∙ ap (λ v. cond v (Some (TableFull at)) long) (le-leb 24 (length table.tasks) c)
 
 pub rules_added : (table : Table) (x : Task) → table_rules table ≡ true → in_range x ≡ true → has_id x.id table.tasks ≡ false → length table.tasks < 24 → span_of (periods (inserted x table.tasks)) ≤ 1000000 → table_rules (with_task table x) ≡ true
 rules_added table x h a b c d =

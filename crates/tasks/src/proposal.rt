@@ -1,5 +1,6 @@
 // A task that is proposed to a table. The struct alone: specs/Stored names it.
 pub(crate) mod checks;
+pub mod periods;
 
 // The values of a task as a caller has them: any numbers, and any count of blocks and points.
 #[derive(Clone, Copy)]

@@ -47,7 +47,12 @@ fn number_of(digits: &[u8]) -> Option<u32>
     ensures { ValueOf digits.now result }
 {
     check_number(digits, 0).ok()?;
-    str::from_utf8(digits).ok()?.parse().ok()
+    // by hand: `parse` of a text that is first tested for UTF-8 took twice the time of a list's reading
+    let mut value = 0u32;
+    for digit in digits {
+        value = value * 10 + u32::from(*digit - b'0');
+    }
+    Some(value)
 }
 
 // The tokens of a line that are left to read. Each method goes past what it names,

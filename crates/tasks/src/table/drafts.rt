@@ -37,10 +37,8 @@ impl Draft {
         if !(1..=MAX_CORES).contains(&cores) {
             return Err(Refusal::OutOfRange { at });
         }
-        self.table = Held {
-            cores,
-            tasks: no_tasks(),
-        };
+        self.table.tasks.clear();
+        self.table.cores = cores;
         Ok(())
     }
 

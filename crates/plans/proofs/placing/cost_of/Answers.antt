@@ -14,7 +14,7 @@ priced c = let table = sealed c.args.table.now in ap overheads c.place_all.ensur
 pub sum-requires-clause-fits : goal.sum-requires-clause-fits
 sum-requires-clause-fits c =
     let at = (goal.at.sum-requires-clause-fits c).After-place_all in
-    let small : overheads c.as_slice.result.now < 18446744073709551616 = omega (arith, ap overheads c.as_slice.ensures.value, priced at, plan_cost_small (sealed c.args.table.now) c.args.table.now.table.rules c.args.rows.now) in
+    let small : overheads c.as_slice.result.now < 18446744073709551616 = omega (arith, ap overheads c.as_slice.ensures.value, priced at, (plan_cost_small (sealed c.args.table.now) c.args.table.now.table.rules c.args.rows.now).1) in
     search (rules, chains, small)
 
 pub returns : goal.returns
@@ -23,5 +23,5 @@ returns c =
     let told : c.sum.result ≡ overheads (list_of c.place_all.result) = search (rules, chains) in
     record {
       value = told ∙ priced at;
-      bound = omega (arith, told, priced at, plan_cost_small (sealed c.args.table.now) c.args.table.now.table.rules c.args.rows.now);
+      bound = omega (arith, told, priced at, (plan_cost_small (sealed c.args.table.now) c.args.table.now.table.rules c.args.rows.now).1);
     }
