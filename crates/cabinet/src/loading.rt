@@ -1,6 +1,7 @@
 // A plan turned into the records of a cabinet in which nothing was released yet.
-ghost use Rattle.std.specs.Prelude.{◌≡◌, ◌≤◌, length};
+ghost use Rattle.std.specs.Prelude.{◌≡◌, ◌≤◌, true, length};
 ghost use Rattle.bounded.specs.Lists.{list_of};
+ghost use Rattle.tasks.specs.Tasks.{in_range};
 ghost use Rattle.tasks.specs.Cuts.{regions};
 ghost use Rattle.tasks.specs.Stored.{task_of};
 ghost use Rattle.tasks.specs.Tables.{sealed};
@@ -17,6 +18,7 @@ use tasks::{MAX_BLOCKS, MAX_POINTS, MAX_TASKS, Sealed, Task};
 
 // The lengths of the regions that the cuts make of the task.
 fn regions_of(task: &Task, cuts: &[bool; MAX_POINTS]) -> Bounded<u32, MAX_BLOCKS>
+    requires { in_range (task_of task.now) ≡ true }
     ensures { list_of result ≡ regions (task_of task.now) cuts.now }
 {
     let mut lengths = Bounded::new(0);
@@ -28,6 +30,7 @@ fn regions_of(task: &Task, cuts: &[bool; MAX_POINTS]) -> Bounded<u32, MAX_BLOCKS
 
 // The task as its row assigns it.
 fn assign(task: &Task, row: &Row) -> Assigned
+    requires { in_range (task_of task.now) ≡ true }
     ensures { IsAssigned (task_of task.now) row.now result }
 {
     Assigned {

@@ -1,8 +1,9 @@
 -- What regions are refused for, one task after another. Assumes nothing.
 use Rattle.std.proofs.Common.{◌≡◌, ℕ, ◌+◌, ◌<◌, ◌≤◌, ◌⊎◌, ⊎_elim, true, cond, List, [], ◌∷◌, ◌++◌, length, Some, None, Option, sym, refl, ap, ◌∙◌, subst, arith}
 use Rattle.std.proofs.lemmas.List.{length_push}
+use Rattle.std.proofs.lemmas.Bool.{and_parts}
 use Rattle.tasks.specs.declared.refusal.Refusal.TheVariants.{LongRegion}
-use Rattle.tasks.specs.Tasks.{Task, Table, every}
+use Rattle.tasks.specs.Tasks.{Task, Table, every, in_range}
 use Rattle.tasks.specs.Cuts.{regions}
 use Rattle.coretests.specs.declared.entry.Entry.{Entry}
 use Rattle.cuts.specs.Allowed.{within}
@@ -18,8 +19,9 @@ rows_placed-places table [] (r ∷ rs) e = absurd (omega arith)
 rows_placed-places table (t ∷ ts) [] e = absurd (omega arith)
 rows_placed-places table (t ∷ ts) (r ∷ rs) e = ap (λ l. r ∷ l) (rows_placed-places table ts rs (omega arith))
 
--- a loop over tasks and their places: those that are left are placed by their rows, and are refused as the whole is
+-- a loop over tasks and their places: those that are left are in range, are placed by their rows, and are refused as the whole is
 pub record Examining (limit : List Entry → ℕ → Option ℕ) (table : Table) (rows : List Row) (before : List Placed) (i : ℕ) (ts : List Task) (ps : List Placed) : Type 0 where
+  pub ranges : every in_range ts ≡ true
   pub left : ps ≡ places table ts (rows_placed ps)
   pub room : length before + length ts ≤ 24
   pub same : region_refusal limit table (i + 1) before ts (rows_placed ps) ≡ region_refusal limit table 1 [] table.tasks rows
@@ -29,6 +31,9 @@ module _ (limit : List Entry → ℕ → Option ℕ) (table : Table) (rows : Lis
     here : Examining limit table rows before i (t ∷ ts) (p ∷ ps)
     here = subst (λ l. Examining limit table rows before i (t ∷ ts) l) places-left (subst (λ l. Examining limit table rows before i l qs) tasks x)
 
+    pub examining_range : in_range t ≡ true
+    examining_range = (and_parts (in_range t) (every in_range ts) here.ranges).0
+
     pub examining_room : length before < 24
     examining_room = omega (arith, here.room)
 
@@ -37,6 +42,7 @@ module _ (limit : List Entry → ℕ → Option ℕ) (table : Table) (rows : Lis
         let is : p ≡ place table t p.row = cc in
         let rest : ps ≡ places table ts (rows_placed ps) = cc in
         record {
+          ranges = (and_parts (in_range t) (every in_range ts) here.ranges).1;
           left = rest;
           room = omega (arith, here.room, length_push before p);
           same =

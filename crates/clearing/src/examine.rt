@@ -20,7 +20,7 @@ fn examine_row(cores: u32, task: &Task, row: &Row, place: usize) -> Result<(), R
     if row.core < 1 || row.core > cores {
         return Err(Refusal::WrongRow { place });
     }
-    if has_cut_beyond(task.points.as_slice(), &row.cuts) {
+    if has_cut_beyond(task, &row.cuts) {
         return Err(Refusal::WrongCut { place });
     }
     Ok(())

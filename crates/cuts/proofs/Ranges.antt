@@ -1,12 +1,16 @@
 -- The ranges of a task as facts, and how much its blocks and its cuts can add up to. Assumes nothing.
-use Rattle.std.proofs.Common.{◌≡◌, ℕ, ◌+◌, ◌-◌, ◌*◌, ◌<◌, ◌≤◌, Bool, true, false, leb, List, [], ◌∷◌, length, get_or, sum, sym, refl, subst, arith}
+use Rattle.std.proofs.Common.{◌≡◌, ℕ, zero, suc, ◌+◌, ◌-◌, ◌*◌, ◌<◌, ◌≤◌, Bool, true, false, leb, List, [], ◌∷◌, length, get_or, sum, sym, refl, ap, ◌∙◌, subst, arith}
 use Rattle.std.specs.List.{AllByRecursion}
 use Rattle.std.proofs.ByRecursion.{All-get_or}
+use Rattle.std.proofs.lemmas.List.{length-map, get_or-map}
 use Rattle.std.proofs.lemmas.List.Recursion.{is_sum_by}
 use Rattle.std.proofs.lemmas.Bool.Decides.{nat_tests}
 use Rattle.std.proofs.lemmas.Bool.{and_parts, leb-true}
-use Rattle.tasks.specs.Tasks.{Task, between, every, in_range}
+use Rattle.tasks.specs.Tasks.{Task, Table, between, every, in_range, table_rules}
 use Rattle.tasks.specs.Cuts.{cost_at, cut_cost, total}
+use Rattle.tasks.specs.Stored.{task_of, tasks_of}
+use Rattle.tasks.specs.declared.task.Task.{Task as Stored}
+use Rattle.tasks.proofs.Rules.{rules_are}
 
 -- the blocks and the points of a task in range
 pub record Ranges (bs ps : List ℕ) : Type 0 where
@@ -84,3 +88,15 @@ pub total_bound : (t : Task) → in_range t ≡ true → total t.blocks ≤ 1600
 total_bound t h =
     let r = ranges t h in
     omega (arith, total_at_most t.blocks r.lengths, r.few)
+
+every_get_d : {X : Type 0} (test : X → Bool) (xs : List X) (i : ℕ) (d : X) → i < length xs → every test xs ≡ true → test (get_or xs i d) ≡ true
+every_get_d test [] i d h e = absurd (omega arith)
+every_get_d test (x ∷ xs) zero d h e = (and_parts (test x) (every test xs) e).0
+every_get_d test (x ∷ xs) (suc i) d h e = every_get_d test xs i d (omega arith) (and_parts (test x) (every test xs) e).1
+
+-- each task that a table stores is in range
+pub stored_in_range : (table : Table) (ts : List Stored) (i : ℕ) (x : Stored) → table_rules table ≡ true → tasks_of ts ≡ table.tasks → i < length ts → x ≡ get_or ts i x → in_range (task_of x) ≡ true
+stored_in_range table ts i x rules are h is =
+    let each : every in_range (tasks_of ts) ≡ true = ap (every in_range) are ∙ (rules_are table rules).ranges in
+    let at = every_get_d in_range (tasks_of ts) i (task_of x) (omega (arith, length-map ts task_of)) each in
+    ap (λ t. in_range (task_of t)) is ∙ sym (ap in_range (get_or-map task_of ts i x (task_of x) h)) ∙ at

@@ -1,5 +1,6 @@
 // The cuts that are chosen under a limit, by a backward programme over the points of a task.
-ghost use Rattle.std.specs.Prelude.{◌≡◌, ◌+◌, ◌<◌, ◌≤◌, length, IfSome};
+ghost use Rattle.std.specs.Prelude.{◌≡◌, ◌+◌, ◌<◌, ◌≤◌, true, length, IfSome};
+ghost use Rattle.tasks.specs.Tasks.{in_range};
 ghost use Rattle.tasks.specs.Stored.{task_of};
 ghost use Rattle.cuts.specs.Best.{BestCuts};
 ghost use Rattle.cuts.specs.Dynamic.{Known, best_at, cheaper_of, with_cut};
@@ -40,6 +41,7 @@ struct Programme<'a> {
     // for each point from there on, the best cuts from it on with a cut there;
     // an array and no `Bounded`, since it fills from the back, at the place of each point
     memo: [Option<Cuts>; MAX_POINTS],
+    ghost ranges: { in_range (task_of task.now) ≡ true },
     ghost place: { from ≤ length (task_of task.now).points },
     ghost known: { Known limit (task_of task.now) memo from },
 }
@@ -84,6 +86,7 @@ impl<'a> Programme<'a> {
 // The cheapest cuts that keep every region of the task within the limit.
 // Of those, the ones whose first region reaches furthest, then the second, and so on.
 pub fn best_cuts(task: &Task, limit: Option<u32>) -> Option<Cuts>
+    requires { in_range (task_of task.now) ≡ true }
     ensures best { BestCuts limit (task_of task.now) result }
     ensures bound { IfSome result (λ c. c.cost ≤ 15000000) }
 {

@@ -2,7 +2,7 @@
 use Rattle.std.proofs.Common.{◌≡◌, ℕ, ◌+◌, ◌<◌, ◌≤◌, true, false, List, [], ◌∷◌, ◌++◌, map, length, get_or, Some, None, Option, sym, ap, ◌∙◌, subst, arith}
 use Rattle.std.proofs.lemmas.List.{map-append}
 use Rattle.bounded.specs.Lists.{list_of}
-use Rattle.tasks.specs.Tasks.{Task, Table, weight, table_rules}
+use Rattle.tasks.specs.Tasks.{Task, Table, in_range, weight, table_rules}
 use Rattle.tasks.specs.Stored.{task_of, tasks_of}
 use Rattle.tasks.specs.declared.task.Task.{Task as Stored}
 use Rattle.tasks.proofs.Rules.{rules_are}
@@ -21,7 +21,7 @@ use Rattle.planning.specs.Planning.{rows_of}
 use Rattle.planning.specs.Walk.{Over, Going, PutWell, beats, left, steps_left, table_in, rows_in}
 use Rattle.planning.proofs.Measure.{left_deeper}
 use Rattle.planning.proofs.Moves.{places-length, move_spare, move_unplaceable, price_more, move_dear, move_deeper, move_whole, cores-more}
-use Rattle.planning.proofs.Next.{count_is, next_here}
+use Rattle.planning.proofs.Next.{count_is, next_in_range, next_here}
 
 module _ {accepts : List Entry → Type 0} {limit : List Entry → ℕ → Option ℕ} (laws : Laws accepts limit) {C : Type 0} (s : Search C) (rules : table_rules (table_in s) ≡ true) (going : Going accepts limit s) where
   abbrev table : Table
@@ -53,6 +53,9 @@ module _ {accepts : List Entry → Type 0} {limit : List Entry → ℕ → Optio
   module _ (stored : List Stored) (same : tasks_of stored ≡ table.tasks) (x : Stored) (is : x ≡ get_or stored (length ps) x) where
     abbrev t : Task
     t = task_of x
+
+    pub in_range_lem : in_range t ≡ true
+    in_range_lem = next_in_range table stored same (length ps) x is placed_short rules
 
     here : Here table.tasks rs t
     here = next_here table stored same (length ps) x is placed_short rs (sym placed_length)

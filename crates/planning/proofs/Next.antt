@@ -1,11 +1,11 @@
 -- The task that is to be placed next. Assumes nothing.
-use Rattle.std.proofs.Common.{◌≡◌, ℕ, ◌+◌, ◌-◌, ◌<◌, ◌≤◌, Bool, true, false, leb, refl, List, [], length, get_or, sym, ap, ◌∙◌, subst, arith}
+use Rattle.std.proofs.Common.{◌≡◌, ℕ, zero, suc, ◌+◌, ◌-◌, ◌<◌, ◌≤◌, Bool, true, false, leb, refl, List, [], ◌∷◌, length, get_or, sym, ap, ◌∙◌, subst, arith}
 use Rattle.std.specs.Bool.{MatchBool, Decides}
 use Rattle.std.specs.List.{range_with_len, HoldsAt, AllWithin}
 use Rattle.std.proofs.lemmas.List.{get_or-map}
 use Rattle.std.proofs.lemmas.List.FromFn.{length-range_with_len, get_or-range_with_len}
 use Rattle.std.proofs.lemmas.Bool.{and_parts, leb-true}
-use Rattle.tasks.specs.Tasks.{Table, table_rules}
+use Rattle.tasks.specs.Tasks.{Task, Table, every, in_range, table_rules}
 use Rattle.tasks.specs.Stored.{task_of, tasks_of}
 use Rattle.tasks.specs.declared.task.Task.{Task as Stored}
 use Rattle.tasks.proofs.Order.{length_stored}
@@ -15,6 +15,11 @@ use Rattle.plans.specs.declared.types.Placed.{Placed}
 use Rattle.plans.specs.Plans.{on_core}
 use Rattle.optimality.specs.Beginnings.{Spare}
 use Rattle.optimality.proofs.Steps.{Here, here_get}
+
+every_at : (test : Task → Bool) (ts : List Task) (i : ℕ) (d : Task) → i < length ts → every test ts ≡ true → test (get_or ts i d) ≡ true
+every_at test [] i d h all = absurd (omega arith)
+every_at test (t ∷ ts) zero d h all = (and_parts (test t) (every test ts) all).0
+every_at test (t ∷ ts) (suc i) d h all = every_at test ts i d (omega arith) (and_parts (test t) (every test ts) all).1
 
 -- how many cores a table has
 pub cores_range : (table : Table) → table_rules table ≡ true → (1 ≤ table.cores) × (table.cores ≤ 8)
@@ -30,6 +35,9 @@ module _ (table : Table) (stored : List Stored) (same : tasks_of stored ≡ tabl
   module _ (i : ℕ) (x : Stored) (is : x ≡ get_or stored i x) (h : i < length table.tasks) where
     next_is : get_or table.tasks i (task_of x) ≡ task_of x
     next_is = ap (λ ts. get_or ts i (task_of x)) (sym same) ∙ get_or-map task_of stored i x (task_of x) (omega (arith, count_is)) ∙ ap task_of (sym is)
+
+    pub next_in_range : table_rules table ≡ true → in_range (task_of x) ≡ true
+    next_in_range rules = subst (λ (t : Task). in_range t ≡ true) next_is (every_at in_range table.tasks i (task_of x) h (rules_are table rules).ranges)
 
     pub next_here : (rs : List Row) → length rs ≡ i → Here table.tasks rs (task_of x)
     next_here rs e = subst (Here table.tasks rs) (ap (λ n. get_or table.tasks n (task_of x)) e ∙ next_is) (here_get table.tasks rs (task_of x) (omega (arith, e)))

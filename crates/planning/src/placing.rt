@@ -1,6 +1,7 @@
 // One task on one core.
-ghost use Rattle.std.specs.Prelude.{◌≡◌, ◌≤◌, Decides};
+ghost use Rattle.std.specs.Prelude.{◌≡◌, ◌≤◌, true, Decides};
 ghost use Rattle.bounded.specs.Lists.{list_of};
+ghost use Rattle.tasks.specs.Tasks.{in_range};
 ghost use Rattle.tasks.specs.Stored.{task_of};
 ghost use Rattle.plans.specs.Plans.{rows_placed};
 ghost use Rattle.optimality.specs.Beginnings.{Spare};
@@ -29,7 +30,8 @@ pub fn put<C: CoreTest>(
     before: &Placings,
     core: u32,
 ) -> Option<Placed>
-    requires { weight ≤ 1000000 }
+    requires range { in_range (task_of task.now) ≡ true }
+    requires light { weight ≤ 1000000 }
     ensures { PutWell (C.accepts test.now) (C.limit test.now) weight (list_of before.now) (task_of task.now) core result }
 {
     let mut list = on_core(before.as_slice(), core);

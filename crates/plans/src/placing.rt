@@ -1,6 +1,7 @@
 // Tasks as their rows place them, and what a plan costs.
-ghost use Rattle.std.specs.Prelude.{◌≡◌, ◌≤◌};
+ghost use Rattle.std.specs.Prelude.{◌≡◌, ◌≤◌, true};
 ghost use Rattle.bounded.specs.Lists.{list_of};
+ghost use Rattle.tasks.specs.Tasks.{in_range};
 ghost use Rattle.tasks.specs.Stored.{task_of};
 ghost use Rattle.tasks.specs.Tables.{sealed};
 ghost use Rattle.plans.specs.Plans.{placed_with, places, cost};
@@ -13,6 +14,7 @@ use tasks::{Sealed, Task};
 
 // The task in its row, with cuts that cost `cut_cost`; `weight` is the number of its periods in one span.
 pub fn placed(task: &Task, row: Row, cut_cost: u32, weight: u64) -> Placed
+    requires range { in_range (task_of task.now) ≡ true }
     requires cheap { cut_cost ≤ 15000000 }
     requires light { weight ≤ 1000000 }
     ensures { result ≡ placed_with (task_of task.now) row cut_cost weight }

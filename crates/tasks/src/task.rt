@@ -1,8 +1,4 @@
 // A task as a table holds it. The struct alone: specs/Stored names it.
-ghost use Rattle.std.specs.Prelude.{◌≡◌, true};
-ghost use Rattle.bounded.specs.Lists.{list_of};
-ghost use Rattle.tasks.specs.Tasks.{in_range};
-
 use bounded::Bounded;
 
 pub mod periods;
@@ -27,5 +23,4 @@ pub struct Task {
     pub blocks: Bounded<u32, MAX_BLOCKS>,
     // the cost of an interruption between two blocks, one for each gap
     pub points: Bounded<u32, MAX_POINTS>,
-    ghost ranges: { in_range (record { id = id; period = period; deadline = deadline; blocks = list_of blocks; points = list_of points }) ≡ true },
 }

@@ -1,5 +1,6 @@
 // The walk over the regions: a region ends at the next cut, or with the task.
-ghost use Rattle.std.specs.Prelude.{◌≡◌};
+ghost use Rattle.std.specs.Prelude.{◌≡◌, true};
+ghost use Rattle.tasks.specs.Tasks.{in_range};
 ghost use Rattle.tasks.specs.Cuts.{regions};
 ghost use Rattle.tasks.specs.Stored.{task_of};
 ghost use Rattle.cuts.specs.Walk.{regions_left};
@@ -9,6 +10,7 @@ use tasks::{MAX_POINTS, Task};
 
 impl<'a> Regions<'a> {
     pub fn new(task: &'a Task, cuts: &'a [bool; MAX_POINTS]) -> Self
+        requires { in_range (task_of task.now) ≡ true }
         ensures { regions_left result ≡ regions (task_of task.now) cuts.now }
     {
         let mut blocks = task.blocks.as_slice().iter();

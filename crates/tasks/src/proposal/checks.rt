@@ -1,4 +1,4 @@
-ghost use Rattle.std.specs.Prelude.{◌≡◌, false, MatchResult};
+ghost use Rattle.std.specs.Prelude.{◌≡◌, true, false, MatchResult};
 ghost use Rattle.tasks.specs.Tasks.{between, every, in_range, points_match};
 ghost use Rattle.tasks.specs.Stored.{proposed, task_of};
 
@@ -43,7 +43,7 @@ pub struct OutOfRange;
 impl TryFrom<&Proposal<'_>> for Task {
     type Error = OutOfRange;
 
-    ghost try_from_gives = { λ p r. MatchResult r (λ t. task_of t ≡ proposed p.now) (λ _. in_range (proposed p.now) ≡ false) };
+    ghost try_from_gives = { λ p r. MatchResult r (λ t. (task_of t ≡ proposed p.now) × (in_range (task_of t) ≡ true)) (λ _. in_range (proposed p.now) ≡ false) };
 
     fn try_from(proposal: &Proposal<'_>) -> Result<Task, OutOfRange> {
         if !proposal.is_in_range() {

@@ -10,14 +10,12 @@ use bounded::Bounded;
 pub fn no_tasks() -> Bounded<Task, MAX_TASKS>
     ensures { list_of result ≡ [] }
 {
-    let mut blocks = Bounded::new(1);
-    let _ = blocks.push(1);
     // fills the places, and is never read
     Bounded::new(Task {
-        id: 1,
+        id: 0,
         period: 1,
         deadline: 1,
-        blocks,
+        blocks: Bounded::new(0),
         points: Bounded::new(0),
     })
 }

@@ -14,6 +14,6 @@ loop-length-preserved c =
     let n = c.in-Some.length in
     let left = regions_left c.next.new.self in
     let whole : done ++ (n ∷ left) ≡ regions t c.args.cuts.now = ap (λ l. done ++ l) (sym c.in-Some.ensures.steps) ∙ c.loop-length.invariant in
-    let room : length done < 16 = omega (arith, ap length whole, length-append done (n ∷ left), regions_few t c.args.cuts.now c.args.task.now.ranges) in
+    let room : length done < 16 = omega (arith, ap length whole, length-append done (n ∷ left), regions_few t c.args.cuts.now c.requires) in
     ap (λ l. l ++ left) (pushed done (list_of c.push.new.self) n 16 c.push.result c.push.ensures.ok c.push.ensures.variant room)
     ∙ append_assoc done (n ∷ []) left ∙ whole

@@ -10,8 +10,17 @@ use Rattle.tasks.specs.Stored.{task_of, tasks_of}
 use Rattle.tasks.specs.Tables.{sealed}
 use Rattle.cuts.specs.Allowed.{within}
 use Rattle.plans.specs.Plans.{on_core, rows_placed}
-use Rattle.clearing.proofs.Regions.{Examining, examining_room, examining_more, examining_end}
+use Rattle.clearing.proofs.Regions.{Examining, examining_range, examining_room, examining_more, examining_end}
 use Rattle.clearing.proofs.examine.examine_regions.Goals as goal
+
+pub regions_within-requires : goal.regions_within-requires
+regions_within-requires g c =
+    let source = enumerate_source c.loop-i.i-iterator in
+    let next = enumerate_source c.next.new.self in
+    let steps = c.in-Some.ensures.steps in
+    examining_range (g.C.CoreTest.limit c.args.test.now) (sealed c.args.table.now) (rows_placed (list_of c.args.placed.now)) (list_of c.loop-i.before) (enumerate_count c.loop-i.i-iterator)
+    (task_of c.in-Some.task.now) (tasks_of (iter_rest (zip_first next))) (tasks_of (iter_rest (zip_first source))) c.in-Some.here.now (iter_rest (zip_second next)) (iter_rest (zip_second source))
+    (ap tasks_of steps.0.0) steps.0.1 c.loop-i.invariant.examining
 
 pub loop-i-preserved : goal.loop-i-preserved
 loop-i-preserved g c =

@@ -6,12 +6,12 @@ use Rattle.cuts.proofs.Dynamic.{best_bound, best_cuts_lem}
 use Rattle.cuts.proofs.best.best_cuts.Goals as goal
 
 pub best-requires : goal.best-requires
-best-requires c = omega (arith, c.at.ensures 0, first_block (ranges (task_of c.args.task.now) c.args.task.now.ranges))
+best-requires c = omega (arith, c.at.ensures 0, first_block (ranges (task_of c.args.task.now) c.requires))
 
 pub returns : goal.returns
 returns c =
     let t = task_of c.args.task.now in
-    let r = ranges t c.args.task.now.ranges in
+    let r = ranges t c.requires in
     let now = c.loop-programme.invariant in
     let started : c.loop-programme.programme.from ≡ 0 = omega arith in
     let is : c.best.result ≡ best_at c.args.limit t (get_or t.blocks 0 0) 0 = c.best.ensures ∙ (λ i. best_at (now.limit i) (task_of (now.task i)) (c.at.ensures 0 i) (started i)) in

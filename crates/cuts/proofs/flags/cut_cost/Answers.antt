@@ -12,7 +12,7 @@ overflow_add-cost c =
     let ps = c.as_slice-points.result.now in
     let fs = c.args.cuts.now in
     let whole = ap (λ ns. cost_at ns fs) c.as_slice-points.ensures.value in
-    omega (arith, cut_cost_bound (task_of c.args.task.now) fs c.args.task.now.ranges, whole, cost_cut ps fs c.loop-j.j c.loop-j-test.true (omega arith) c.if-cuts-j.true, c.loop-j.invariant)
+    omega (arith, cut_cost_bound (task_of c.args.task.now) fs c.requires, whole, cost_cut ps fs c.loop-j.j c.loop-j-test.true (omega arith) c.if-cuts-j.true, c.loop-j.invariant)
 
 pub loop-j-preserved : goal.loop-j-preserved
 loop-j-preserved c =
@@ -32,5 +32,5 @@ returns c =
     let none = at_drop_all (λ ns. cost_at ns (drop c.loop-j.j fs)) ps c.loop-j.j c.loop-j-test.false in
     record {
       value = omega (arith, whole, none, c.loop-j.invariant);
-      bound = omega (arith, whole, none, c.loop-j.invariant, cut_cost_bound (task_of c.args.task.now) fs c.args.task.now.ranges);
+      bound = omega (arith, whole, none, c.loop-j.invariant, cut_cost_bound (task_of c.args.task.now) fs c.requires);
     }

@@ -16,14 +16,14 @@ pub loop-j-init : goal.loop-j-init
 loop-j-init c =
     let bs = c.as_slice-blocks.result.now in
     let ps = c.as_slice-points.result.now in
-    let r = ranges_at (task_of c.args.task.now) bs ps c.as_slice-blocks.ensures.value c.as_slice-points.ensures.value c.args.task.now.ranges in
+    let r = ranges_at (task_of c.args.task.now) bs ps c.as_slice-blocks.ensures.value c.as_slice-points.ensures.value c.requires in
     (ap (every (within c.args.limit)) (regions-start bs ps c.args.cuts.now r.some), omega (arith, first_block r))
 
 pub returns-then-not-is_within : goal.returns-then-not-is_within
 returns-then-not-is_within c =
     let bs = c.as_slice-blocks.result.now in
     let ps = c.as_slice-points.result.now in
-    let r = ranges_at (task_of c.args.task.now) bs ps c.as_slice-blocks.ensures.value c.as_slice-points.ensures.value c.args.task.now.ranges in
+    let r = ranges_at (task_of c.args.task.now) bs ps c.as_slice-blocks.ensures.value c.as_slice-points.ensures.value c.requires in
     let fs = c.args.cuts.now in
     let j = c.loop-j.j in
     let test = every (within c.args.limit) in
@@ -38,21 +38,21 @@ pub overflow_add-length-then-cuts-j : goal.overflow_add-length-then-cuts-j
 overflow_add-length-then-cuts-j c =
     let bs = c.as_slice-blocks.result.now in
     let ps = c.as_slice-points.result.now in
-    let r = ranges_at (task_of c.args.task.now) bs ps c.as_slice-blocks.ensures.value c.as_slice-points.ensures.value c.args.task.now.ranges in
+    let r = ranges_at (task_of c.args.task.now) bs ps c.as_slice-blocks.ensures.value c.as_slice-points.ensures.value c.requires in
     omega (arith, cost_at_lem r c.loop-j.j c.loop-j-test.true, block_after r c.loop-j.j c.loop-j-test.true)
 
 pub overflow_add-length-else-cuts-j-2 : goal.overflow_add-length-else-cuts-j-2
 overflow_add-length-else-cuts-j-2 c =
     let bs = c.as_slice-blocks.result.now in
     let ps = c.as_slice-points.result.now in
-    let r = ranges_at (task_of c.args.task.now) bs ps c.as_slice-blocks.ensures.value c.as_slice-points.ensures.value c.args.task.now.ranges in
+    let r = ranges_at (task_of c.args.task.now) bs ps c.as_slice-blocks.ensures.value c.as_slice-points.ensures.value c.requires in
     omega (arith, block_after r c.loop-j.j c.loop-j-test.true, c.loop-j.invariant.1, r.fewer, r.few)
 
 pub loop-j-preserved : goal.loop-j-preserved
 loop-j-preserved c =
     let bs = c.as_slice-blocks.result.now in
     let ps = c.as_slice-points.result.now in
-    let r = ranges_at (task_of c.args.task.now) bs ps c.as_slice-blocks.ensures.value c.as_slice-points.ensures.value c.args.task.now.ranges in
+    let r = ranges_at (task_of c.args.task.now) bs ps c.as_slice-blocks.ensures.value c.as_slice-points.ensures.value c.requires in
     let fs = c.args.cuts.now in
     let j = c.loop-j.j in
     let n = c.loop-j.length in
@@ -80,7 +80,7 @@ pub returns : goal.returns
 returns c =
     let bs = c.as_slice-blocks.result.now in
     let ps = c.as_slice-points.result.now in
-    let r = ranges_at (task_of c.args.task.now) bs ps c.as_slice-blocks.ensures.value c.as_slice-points.ensures.value c.args.task.now.ranges in
+    let r = ranges_at (task_of c.args.task.now) bs ps c.as_slice-blocks.ensures.value c.as_slice-points.ensures.value c.requires in
     let fs = c.args.cuts.now in
     let j = c.loop-j.j in
     let test = every (within c.args.limit) in

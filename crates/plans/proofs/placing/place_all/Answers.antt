@@ -1,15 +1,15 @@
-use Rattle.std.proofs.Common.{◌/◌, [], ◌∷◌, ◌++◌, None, sym, refl, ap, ◌∙◌, subst, inl, inr, ⊎_elim, arith}
+use Rattle.std.proofs.Common.{◌≡◌, true, ◌/◌, [], ◌∷◌, ◌++◌, None, sym, refl, ap, ◌∙◌, subst, inl, inr, ⊎_elim, arith}
 use Rattle.std.specs.Slice.Iter.{iter_rest}
 use Rattle.std.specs.Iterator.Adapters.{zip_first, zip_second}
 use Rattle.std.proofs.lemmas.Slice.Zip.{either_empty_from_Zip}
 use Rattle.bounded.specs.Lists.{list_of}
-use Rattle.tasks.specs.Tasks.{Table}
+use Rattle.tasks.specs.Tasks.{Table, in_range}
 use Rattle.tasks.specs.Stored.{task_of, tasks_of}
 use Rattle.tasks.specs.Tables.{sealed}
 use Rattle.tasks.proofs.Rules.{in_range_period}
 use Rattle.bounded.proofs.Pushed.{pushed}
 use Rattle.plans.proofs.Costs.{weight_small}
-use Rattle.plans.proofs.Places.{place_with, Placing, placing_start, placing_at, placing_room, placing_more, placing_end}
+use Rattle.plans.proofs.Places.{place_with, Placing, placing_start, placing_at, placing_range, placing_room, placing_more, placing_end}
 use Rattle.plans.proofs.placing.place_all.Goals as goal
 use Rattle.plans.proofs.placing.place_all.Goals.{In-Some}
 
@@ -34,12 +34,19 @@ module _ (c : In-Some) where
       (iter_rest (zip_first c.loop-task.task-iterator)) (c.in-Some.task.now ∷ iter_rest (zip_first c.next.new.self))
       (iter_rest (zip_second c.loop-task.task-iterator)) (c.in-Some.row.now ∷ iter_rest (zip_second c.next.new.self)) steps.0 steps.1 c.loop-task.invariant
 
+  in_range_lem : in_range (task_of c.in-Some.task.now) ≡ true
+  in_range_lem = placing_range table c.args.rows.now (list_of c.loop-task.all) (task_of c.in-Some.task.now) (tasks_of (iter_rest (zip_first c.next.new.self))) c.in-Some.row.now (iter_rest (zip_second c.next.new.self)) placing
+
 pub nonzero_div-weight : goal.nonzero_div-weight
-nonzero_div-weight c = in_range_period (task_of c.in-Some.task.now) c.in-Some.task.now.ranges
+nonzero_div-weight c = in_range_period (task_of c.in-Some.task.now) (in_range_lem c)
+
+pub cut_cost-price-requires : goal.cut_cost-price-requires
+cut_cost-price-requires c = in_range_lem (goal.at.cut_cost-price-requires c).In-Some
 
 pub placed-requires : goal.placed-requires
 placed-requires c =
     record {
+      range = in_range_lem (goal.at.placed-requires c).In-Some;
       cheap = c.cut_cost-price.ensures.bound;
       light = omega (arith, ap (λ n. n / c.in-Some.task.now.period) c.span-span.ensures.value, weight_small (sealed c.args.table.now) c.args.table.now.table.rules (task_of c.in-Some.task.now));
     }

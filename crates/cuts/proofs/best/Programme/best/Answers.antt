@@ -15,7 +15,7 @@ loop-block-preserved c =
     let now = c.loop-block.invariant in
     let e = s.from + length c.loop-block.yielded in
     let known : Known s.limit t s.memo e = λ k le lt. s.known k (omega arith) lt in
-    let turn = scan_turn s.limit t (ranges t s.task.now.ranges) c.loop-block.length e _ _ s.memo _ _ c.is_within.result c.loop-block.found c.if-is_within.found
+    let turn = scan_turn s.limit t (ranges t s.ranges) c.loop-block.length e _ _ s.memo _ _ c.is_within.result c.loop-block.found c.if-is_within.found
     (sym now.row ∙ c.in-Some.ensures.steps.0) (sym now.table ∙ c.in-Some.ensures.steps.1) known c.is_within.ensures
     (elim c.if-is_within.branch [
       | then-is_within w ↦ w.found-is ∙ w.cheaper-found.ensures ∙ sym (ap (λ b. cond b (cheaper_of c.loop-block.found c.in-Some.ending.now) c.loop-block.found) w.if-is_within.true)
@@ -34,7 +34,7 @@ pub returns-then-is_within-2 : goal.returns-then-is_within-2
 returns-then-is_within-2 c =
     let s = c.args.self.now in
     let t = task_of s.task.now in
-    let r = ranges t s.task.now.ranges in
+    let r = ranges t s.ranges in
     let e = s.from + length c.loop-block.yielded in
     let now = c.loop-block.invariant in
     let past = scan_past s.limit t r e _ s.memo _ now.row now.table (omega arith) (either_empty_from_Zip c.loop-block.block-iterator c.next.new.self None refl c.in-None.ensures.steps) in

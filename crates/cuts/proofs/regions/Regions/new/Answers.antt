@@ -13,4 +13,4 @@ invariant_of-result c =
     let bs = iter_rest (zip_first (zip_first gaps)) in
     let ps = iter_rest (zip_second (zip_first gaps)) in
     let fs = iter_rest (zip_second gaps) in
-    record { fits = subst (λ o. Fits o bs ps fs) (sym c.copied.ensures) (fits_first t _ c.next.result _ _ bs ps fs c.args.task.now.ranges (cc) c.next.ensures.steps (cc) (cc) (cc)) }
+    record { fits = subst (λ o. Fits o bs ps fs) (sym c.copied.ensures) (fits_first t _ c.next.result _ _ bs ps fs c.requires (cc) c.next.ensures.steps (cc) (cc) (cc)) }

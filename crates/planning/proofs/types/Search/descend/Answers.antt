@@ -3,10 +3,11 @@ use Rattle.bounded.specs.Lists.{list_of}
 use Rattle.bounded.proofs.Pushed.{pushed}
 use Rattle.tasks.specs.Tasks.{weight}
 use Rattle.tasks.specs.Stored.{task_of}
+use Rattle.tasks.proofs.Rules.{in_range_period}
 use Rattle.plans.specs.declared.types.Placed.{Placed}
 use Rattle.optimality.specs.Tests.{Laws}
 use Rattle.planning.specs.Walk.{table_in, PutWell}
-use Rattle.planning.proofs.Descent.{placed_few, spare_tried, none_tried, sum_fits, dear_tried, whole_tried, goes_down}
+use Rattle.planning.proofs.Descent.{placed_few, spare_tried, in_range_lem, none_tried, sum_fits, dear_tried, whole_tried, goes_down}
 use Rattle.planning.proofs.types.Search.descend.Given as given
 use Rattle.planning.proofs.types.Search.descend.Goals as goal
 use Rattle.planning.proofs.types.Search.descend.Goals.{After-put}
@@ -18,6 +19,20 @@ pub returns-then-is_spare-clause-moves : goal.returns-then-is_spare-clause-moves
 returns-then-is_spare-clause-moves g c =
     let s = c.args.self.now in
     (record { stands = spare_tried (laws g s.test.now) s s.table.now.table.rules c.requires (c.is_spare.ensures.0 c.if-is_spare.true); within = c.requires.within }, refl)
+
+pub nonzero_div-weight : goal.nonzero_div-weight
+nonzero_div-weight g c =
+    let s = c.args.self.now in
+    let x = c.index-tasks-len.result in
+    let is = c.index-tasks-len.is ∙ ap (λ n. get_or c.tasks-tasks.result.now n x) c.len.ensures.value in
+    in_range_period (task_of x) (in_range_lem (laws g s.test.now) s s.table.now.table.rules c.requires c.tasks-tasks.result.now c.tasks-tasks.ensures x is)
+
+pub put-requires-clause-range : goal.put-requires-clause-range
+put-requires-clause-range g c =
+    let s = c.args.self.now in
+    let x = c.index-tasks-len.result in
+    let is = c.index-tasks-len.is ∙ ap (λ n. get_or c.tasks-tasks.result.now n x) c.len.ensures.value in
+    in_range_lem (laws g s.test.now) s s.table.now.table.rules c.requires c.tasks-tasks.result.now c.tasks-tasks.ensures x is
 
 module _ (g : given.Over) (c : After-put g) where
   -- the next task, and what put says of it

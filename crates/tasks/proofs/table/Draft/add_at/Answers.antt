@@ -18,7 +18,7 @@ use Rattle.tasks.proofs.table.Draft.add_at.Goals.{In-Ok, After-has_id, After-ins
 
 module _ (c : In-Ok) where
   fits_in : in_range (proposed c.args.task.now) ≡ true
-  fits_in = ap in_range (sym c.in-Ok.ensures) ∙ c.in-Ok.new.ranges
+  fits_in = ap in_range (sym c.in-Ok.ensures.0) ∙ c.in-Ok.ensures.1
 
 module _ (c : After-has_id) where
   stored_long : length (tasks_of (list_of c.args.self.now.table.tasks)) ≡ length c.as_slice-tasks.result.now
@@ -55,7 +55,7 @@ module _ (c : After-insert) where
   put =
       let ts = list_of c.args.self.now.table.tasks in
       ap tasks_of (inserted_there ts (list_of c.insert.new.self) c.place_for.result c.in-Ok.new 24 c.insert.result c.insert.ensures.ok c.insert.ensures.variant (omega (arith, room, length_stored ts)))
-      ∙ put_in c.in-Ok.new (proposed c.args.task.now) ts c.place_for.result c.in-Ok.ensures (c.place_for.ensures ∙ ap (not_later c.args.task.now.deadline) c.as_slice-tasks.ensures.value)
+      ∙ put_in c.in-Ok.new (proposed c.args.task.now) ts c.place_for.result c.in-Ok.ensures.0 (c.place_for.ensures ∙ ap (not_later c.args.task.now.deadline) c.as_slice-tasks.ensures.value)
 
   fits : in_range (proposed c.args.task.now) ≡ true
   fits = fits_in (goal.at.After-insert c).In-Ok
