@@ -6,7 +6,8 @@ use Rattle.span.specs.Spans.{span_of, span_from, Positive}
 use Rattle.tasks.specs.Tasks.{Task, Table, between, every, in_range, has_id, distinct, ordered, periods, inserted, with_task, empty_on, table_rules}
 use Rattle.tasks.specs.declared.task.Task.{Task as Stored}
 use Rattle.tasks.specs.Stored.{tasks_of}
-use Rattle.tasks.specs.Tables.{add_refusal}
+use Rattle.tasks.specs.Tables.{sealed, add_refusal}
+use Rattle.tasks.specs.declared.table.Sealed.{Sealed}
 use Rattle.tasks.specs.declared.refusal.Refusal.{Refusal}
 use Rattle.tasks.specs.declared.refusal.Refusal.TheVariants.{OutOfRange, IdTaken, TableFull, LongSpan}
 use Rattle.tasks.proofs.Order.{length_inserted, every_inserted, ordered-inserted, distinct-inserted}
@@ -29,6 +30,10 @@ rules_are table h =
     let d = and_parts (distinct ts) _ c.1 in
     let e = and_parts (ordered ts) (leb (span_of (periods ts)) 1000000) d.1 in
     record { cores = a.0; few = leb-true (length ts) 24 b.0; ranges = c.0; ids = d.0; order = e.0; short = leb-true (span_of (periods ts)) 1000000 e.1 }
+
+-- what a sealed table keeps, by its type: for callers, since its fields are private
+pub sealed_rules : (s : Sealed) → table_rules (sealed s) ≡ true
+sealed_rules s = s.table.rules
 
 pub rules_make : (table : Table) → Rules table → table_rules table ≡ true
 rules_make table r =

@@ -10,7 +10,7 @@ use Rattle.tasks.specs.Stored.{task_of, tasks_of}
 use Rattle.tasks.specs.Tables.{sealed}
 use Rattle.cuts.specs.Allowed.{within}
 use Rattle.plans.specs.Plans.{on_core, rows_placed}
-use Rattle.clearing.proofs.Regions.{Examining, examining_range, examining_room, examining_more, examining_end}
+use Rattle.clearing.proofs.Regions.{examining_room, examining_end, RangedExamining, examining_range, ranged_more}
 use Rattle.clearing.proofs.examine.examine_regions.Goals as goal
 
 pub regions_within-requires : goal.regions_within-requires
@@ -42,13 +42,13 @@ loop-i-preserved g c =
     let tasks : us ≡ t ∷ ts = ap tasks_of steps.0.0 in
     let longest = c.longest-longest.ensures ∙ ap (λ l. limit l t.deadline) (c.as_slice-in-loop-i-2.ensures.value ∙ c.on_core-list.ensures.items ∙ ap (on_core p.row.core) c.as_slice-in-loop-i.ensures.value) in
     let short = ap (λ o. every (within o) (regions t p.row.cuts)) (sym longest) ∙ sym c.regions_within.ensures ∙ c.if-not-regions_within.false in
-    let room = examining_room limit table rows before i t ts us p ps qs tasks steps.0.1 at in
+    let room = examining_room limit table rows before i t ts us p ps qs tasks steps.0.1 at.examining in
     let grew = pushed before (list_of c.push.new.self) p 24 c.push.result c.push.ensures.ok c.push.ensures.variant room in
-    let more = examining_more limit table rows before i t ts us p ps qs tasks steps.0.1 at short in
+    let more = ranged_more limit table rows before i t ts us p ps qs tasks steps.0.1 at short in
     record {
       can = search rules;
       finite = search rules;
-      examining = subst (λ l. Examining limit table rows l (enumerate_count c.next.new.self) ts ps) (sym grew) (subst (λ k. Examining limit table rows (before ++ p ∷ []) k ts ps) (sym steps.2) more);
+      examining = subst (λ l. RangedExamining limit table rows l (enumerate_count c.next.new.self) ts ps) (sym grew) (subst (λ k. RangedExamining limit table rows (before ++ p ∷ []) k ts ps) (sym steps.2) more);
     }
 
 pub returns : goal.returns
@@ -57,4 +57,4 @@ returns g c =
     let source = enumerate_source it in
     let ended = either_empty_from_Zip source (enumerate_source c.next.new.self) None refl c.in-None.ensures.steps.0 in
     examining_end (g.C.CoreTest.limit c.args.test.now) (sealed c.args.table.now) (rows_placed (list_of c.args.placed.now)) (list_of c.loop-i.before) (enumerate_count it) (tasks_of (iter_rest (zip_first source))) (iter_rest (zip_second source))
-    c.loop-i.invariant.examining (⊎_elim (λ e. inl (ap tasks_of e)) (λ e. inr e) ended)
+    c.loop-i.invariant.examining.examining (⊎_elim (λ e. inl (ap tasks_of e)) (λ e. inr e) ended)
